@@ -1,0 +1,3 @@
+// Tables of rules: limits, refusals, and the checks that every later layer rests on.
+pub mod refusal;
+pub mod scan;
