@@ -1,0 +1,5 @@
+pub mod Words
+mod Steps
+mod Clauses
+pub mod Legal
+mod Firsts

@@ -1,3 +1,4 @@
 pub mod Refusals
 pub mod Tables
 pub mod Scans
+pub mod Promises

@@ -51,6 +51,11 @@ abbrev pub clausesOf : List ℤ → List (List ℤ)
 clausesOf [] = []
 clausesOf (w ∷ ws) = cond (isZero w) ([] ∷ clausesOf ws) (onto w (clausesOf ws))
 
+-- what follows the first 0
+abbrev pub rest : List ℤ → List ℤ
+rest [] = []
+rest (w ∷ ws) = cond (isZero w) ws (rest ws)
+
 -- an assignment gives a value to each variable; variable k has the place k − 1
 abbrev pub Assignment : Type 0
 Assignment = ℕ → Bool
