@@ -44,8 +44,8 @@ split : (ws : List ℤ) → Split (clausesOf ws) (clausesOf (rest ws))
 split [] = inl (refl, refl)
 split (w ∷ ws) =
     elim (isZero w) as (λ b. Split (cond b ([] ∷ clausesOf ws) (onto w (clausesOf ws))) (clausesOf (cond b ws (rest ws)))) [
-      true ↦ inr ([], refl)
-    | false ↦ ⊎-elim (λ h. inl (ap (onto w) (h .0), h .1)) (λ h. inr (w ∷ h .0, ap (onto w) (h .1))) (split ws)
+      | true ↦ inr ([], refl)
+      | false ↦ ⊎-elim (λ h. inl (ap (onto w) (h .0), h .1)) (λ h. inr (w ∷ h .0, ap (onto w) (h .1))) (split ws)
     ]
 
 module _ (a : Assignment) where

@@ -17,7 +17,10 @@ pub fn check_table(variables: usize, words: &[i32]) -> Result<usize, Refusal>
     ensures accepts { λ _. ⌜ AcceptsLegalTables variables (now (words .entry)) ⌝ }
 {
     if variables < 1 || variables > MOST_VARIABLES {
-        return Err(Refusal { check: Check::Limits, place: 0 });
+        return Err(Refusal {
+            check: Check::Limits,
+            place: 0,
+        });
     }
     let mut tally = Tally::new();
     for i in 0..words.len() {
@@ -31,11 +34,17 @@ pub fn check_start(variables: usize, start: &[u8]) -> Result<(), Refusal>
     ensures { λ r. ⌜ r ≡ startChecked variables (now (start .entry)) ⌝ }
 {
     if start.len() != variables {
-        return Err(Refusal { check: Check::StartValues, place: start.len() });
+        return Err(Refusal {
+            check: Check::StartValues,
+            place: start.len(),
+        });
     }
     for i in 0..start.len() {
         if start[i] > 1 {
-            return Err(Refusal { check: Check::StartValues, place: i });
+            return Err(Refusal {
+                check: Check::StartValues,
+                place: i,
+            });
         }
     }
     Ok(())

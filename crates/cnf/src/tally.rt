@@ -6,7 +6,9 @@ use crate::refusal::Refusal;
 
 // The most variables, clauses and literals that a table may have.
 pub const MOST_VARIABLES: usize = 256;
+
 pub const MOST_CLAUSES: usize = 1024;
+
 pub const MOST_LITERALS: usize = 4096;
 
 // The clauses that are ended, the literals, repeats counted, and whether a clause is begun and not ended.
@@ -22,14 +24,22 @@ impl Tally {
     pub fn new() -> Tally
         ensures { λ r. ⌜ r ≡ noWords ⌝ }
     {
-        Tally { ended: 0, literals: 0, begun: false }
+        Tally {
+            ended: 0,
+            literals: 0,
+            begun: false,
+        }
     }
 
     // The tally with one word more of a table over so many variables.
     pub fn word(self, variables: usize, word: i32) -> Result<Tally, Check>
         ensures { λ r. ⌜ r ≡ tallied variables self word ⌝ }
     {
-        if word == 0 { self.end() } else { self.literal(variables, word) }
+        if word == 0 {
+            self.end()
+        } else {
+            self.literal(variables, word)
+        }
     }
 
     // The same where the word is the 0 that ends a clause.
@@ -42,7 +52,11 @@ impl Tally {
         if self.ended >= MOST_CLAUSES {
             return Err(Check::Limits);
         }
-        Ok(Tally { ended: self.ended + 1, literals: self.literals, begun: false })
+        Ok(Tally {
+            ended: self.ended + 1,
+            literals: self.literals,
+            begun: false,
+        })
     }
 
     // The same where the word is a literal.
@@ -55,7 +69,11 @@ impl Tally {
         if self.literals >= MOST_LITERALS {
             return Err(Check::LiteralCount);
         }
-        Ok(Tally { ended: self.ended, literals: self.literals + 1, begun: true })
+        Ok(Tally {
+            ended: self.ended,
+            literals: self.literals + 1,
+            begun: true,
+        })
     }
 
     // The number of clauses of a table that ends here, at the place given.
@@ -63,10 +81,16 @@ impl Tally {
         ensures { λ r. ⌜ r ≡ closed place self ⌝ }
     {
         if self.begun {
-            return Err(Refusal { check: Check::ClauseCount, place });
+            return Err(Refusal {
+                check: Check::ClauseCount,
+                place,
+            });
         }
         if self.ended == 0 {
-            return Err(Refusal { check: Check::Limits, place: 0 });
+            return Err(Refusal {
+                check: Check::Limits,
+                place: 0,
+            });
         }
         Ok(self.ended)
     }

@@ -14,8 +14,7 @@ use Rattle.cnf.proofs.table.first_unsatisfied.Needs as need
 pub clauses-again : need.clauses-again
 clauses-again c =
     let f : SFits w32 (getD (c .args .words .now) (c .loop-i .i) (pos 0)) = search needs in
-    let a = valuesOf (c .args .start .now) in
-    (
+    let a = valuesOf (c .args .start .now) in (
       omega arith,
       omega arith,
       c .loop-i .inv .0,
@@ -25,8 +24,7 @@ clauses-again c =
 pub loop-i-again : need.loop-i-again
 loop-i-again c =
     let f : SFits w32 (getD (c .args .words .now) (c .loop-i .i) (pos 0)) = search needs in
-    let a = valuesOf (c .args .start .now) in
-    (
+    let a = valuesOf (c .args .start .now) in (
       c .loop-i .inv .0,
       left-false (c .args .words .now) (c .loop-i .i) (c .loop-i-test .taken) a (c .clauses .clause + 1) (c .if-words-i-eq0 .left) (c .if-literal-holds .ensures tt ∙ ap (holds a) (toZ-ofZ w32 (getD (c .args .words .now) (c .loop-i .i) (pos 0)) f)) ∙ c .loop-i .inv .1,
     )

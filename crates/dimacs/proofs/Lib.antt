@@ -1,0 +1,7 @@
+mod Numbers
+pub mod Steps
+mod Heads
+pub mod Tokens
+pub mod Mets
+mod Bodies
+pub mod Fills

@@ -1,0 +1,6 @@
+pub mod Numbers
+pub mod Words
+pub mod Faults
+pub mod Heads
+pub mod Reads
+pub mod Readers
