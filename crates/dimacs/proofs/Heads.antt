@@ -11,7 +11,7 @@ use lib.ListN.{length, getD, take, drop}
 use Rattle.std.specs.shelf.Lists.{leading}
 use Rattle.std.proofs.shelf.Lists.{at-drop-more, at-drop-all, drop-drop, length-drop}
 use Rattle.std.proofs.shelf.Sums.{leading-le-length, leading-drop-yes, leading-drop-no, leading-drop-all}
-use Rattle.std.proofs.shelf.Tests.{cond-true, cond-false, eq-eqb, ne-eqb, cases-bool, not-from-true, not-from-false, not-false, not-true, eqb-true, cases-lt, and-parts, and-from, le-ltb}
+use Rattle.std.proofs.shelf.Tests.{cond-true, cond-false, eq-eqb, ne-eqb, cases-bool, not-from-true, not-from-false, not-false, not-true, eqb-true, cases-lt, and-parts, and-from, le-ltb, cond-both}
 use Rattle.std.specs.declared.option.Option.the-variants.{Some, None}
 use Rattle.std.specs.declared.option.Option.{Option}
 use Rattle.dimacs.specs.Words.{Token, tokens, Said, word, end, saidOf, saidBefore}
@@ -117,3 +117,12 @@ head-by bs s e w l hs he hw =
     ∙ ap (λ n. headOf s n (problemOf s (tokens s (drop s (take n bs))))) he
     ∙ ap (λ n. headOf n (lineEnd bs n) (problemOf n (lineTokens bs n))) hs
     ∙ sym (cond-false _ _ _ (le-ltb 65535 (length bs) l))
+
+head-from-within : (t : Bool) (p : ℕ) (l : List ℕ) → headFrom t p l ≤ p + length l
+head-from-within true p [] = omega arith
+head-from-within true p (b ∷ l) = omega (arith, head-from-within (not (eqb b 10)) (p + 1) l)
+head-from-within false p [] = omega arith
+head-from-within false p (b ∷ l) = cond-both (eqb b 99) (headFrom true (p + 1) l) p (λ n. n ≤ p + length (b ∷ l)) (λ e. omega (arith, head-from-within true (p + 1) l)) (λ e. omega arith)
+
+pub head-start-within : (bs : List ℕ) → headFrom false 0 bs ≤ length bs
+head-start-within bs = omega (arith, head-from-within false 0 bs)

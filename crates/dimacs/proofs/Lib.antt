@@ -5,3 +5,4 @@ pub mod Tokens
 pub mod Mets
 mod Bodies
 pub mod Fills
+mod Accepted
