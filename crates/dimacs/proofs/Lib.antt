@@ -6,3 +6,4 @@ pub mod Mets
 mod Bodies
 pub mod Fills
 mod Accepted
+pub mod Worded

@@ -4,3 +4,4 @@ pub mod Faults
 pub mod Heads
 pub mod Reads
 pub mod Readers
+pub mod Grammar

@@ -1,0 +1,2 @@
+pub mod Threshold
+pub mod Countdown

@@ -1,0 +1,2 @@
+pub mod Generators
+pub mod Recordings
