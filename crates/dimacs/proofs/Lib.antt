@@ -7,3 +7,6 @@ mod Bodies
 pub mod Fills
 mod Accepted
 pub mod Worded
+mod Comments
+mod Spelled
+pub mod Accepts

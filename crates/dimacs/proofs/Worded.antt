@@ -49,14 +49,14 @@ spaced-tokens p s w rest hs hn hw ha =
     ∙ ap (λ l. token w (p + length s) ∷ tokens (p + length s + length w) l) (drop-at w rest (length w) refl)
 
 pub worded-tokens : (p : ℕ) {bs : List ℕ} {ws : List (List ℕ)} → Worded bs ws → bytesOf (tokens p bs) ≡ ws
-worded-tokens p (blank {s} h) = ap bytesOf (white-only s p h)
-worded-tokens p (spaced {s} {w} {rest} {ws} hs hn hw ha r) =
+worded-tokens p (blank s h) = ap bytesOf (white-only s p h)
+worded-tokens p (spaced s w rest {ws} hs hn hw ha r) =
     ap bytesOf (spaced-tokens p s w rest hs hn hw ha) ∙ ap (λ l. w ∷ l) (worded-tokens (p + length s + length w) r)
 
 -- one byte of white space more in front
 white-onto : (b : ℕ) {bs : List ℕ} {ws : List (List ℕ)} → white b ≡ true → Worded bs ws → Worded (b ∷ bs) ws
-white-onto b e (blank h) = blank (e, h)
-white-onto b e (spaced hs hn hw ha r) = spaced (e, hs) hn hw ha r
+white-onto b e (blank s h) = blank (b ∷ s) (e, h)
+white-onto b e (spaced s w rest hs hn hw ha r) = spaced (b ∷ s) w rest (e, hs) hn hw ha r
 
 apart-after : (l : List ℕ) → opensWord l ≡ false → Apart l
 apart-after [] e = tt
@@ -64,12 +64,12 @@ apart-after (b ∷ l) e = not-false (white b) e
 
 -- one byte more in front of the first word, which begins at once
 longer : (b : ℕ) (l : List ℕ) (ws : List (List ℕ)) → dark b ≡ true → opensWord l ≡ true → Worded l ws → (w : List ℕ) (us : List (List ℕ)) → ws ≡ w ∷ us → Worded (b ∷ l) ((b ∷ w) ∷ us)
-longer b l ws d o (blank {s} h) w us e = let z : _≡_ {A = ℕ} 0 1 = cc in absurd (omega arith)
-longer b l ws d o (spaced {[]} {x} {rest} {vs} hs hn hw ha r) w us e =
+longer b l ws d o (blank s h) w us e = let z : _≡_ {A = ℕ} 0 1 = cc in absurd (omega arith)
+longer b l ws d o (spaced [] x rest {ws = vs} hs hn hw ha r) w us e =
     let p : x ≡ w = cc in
     let q : vs ≡ us = cc in
-    subst (λ y. Worded (b ∷ (x ++ rest)) ((b ∷ y) ∷ us)) p (subst (λ y. Worded (b ∷ (x ++ rest)) ((b ∷ x) ∷ y)) q (spaced {s = []} tt (omega arith) (d, hw) ha r))
-longer b l ws d o (spaced {c ∷ s} {x} {rest} {vs} hs hn hw ha r) w us e = absurd (true≢false (sym o ∙ not-from-true (white c) (hs .0)))
+    subst (λ y. Worded (b ∷ (x ++ rest)) ((b ∷ y) ∷ us)) p (subst (λ y. Worded (b ∷ (x ++ rest)) ((b ∷ x) ∷ y)) q (spaced [] (b ∷ x) rest tt (omega arith) (d, hw) ha r))
+longer b l ws d o (spaced (c ∷ s) x rest {ws = vs} hs hn hw ha r) w us e = absurd (true≢false (sym o ∙ not-from-true (white c) (hs .0)))
 
 abbrev Opened : List Token → Type 0
 Opened [] = ⊥
@@ -84,14 +84,14 @@ lengthened b p l (t ∷ ts) n d o r = longer b l (t .bytes ∷ bytesOf ts) d o r
 
 dark-by : (t : Bool) (p b : ℕ) (l : List ℕ) → dark b ≡ true → opensWord l ≡ t → Worded l (bytesOf (tokens (p + 1) l)) → Worded (b ∷ l) (bytesOf (cond t (lengthen b p (tokens (p + 1) l)) (token (b ∷ []) p ∷ tokens (p + 1) l)))
 dark-by true p b l d o r = lengthened b p l (tokens (p + 1) l) (opens-tokens (p + 1) l o) d o r
-dark-by false p b l d o r = spaced {s = []} tt (omega arith) (d, tt) (apart-after l o) r
+dark-by false p b l d o r = spaced [] (b ∷ []) l tt (omega arith) (d, tt) (apart-after l o) r
 
 byte-by : (t : Bool) (p b : ℕ) (l : List ℕ) → white b ≡ t → Worded l (bytesOf (tokens (p + 1) l)) → Worded (b ∷ l) (bytesOf (cond t (tokens (p + 1) l) (cond (opensWord l) (lengthen b p (tokens (p + 1) l)) (token (b ∷ []) p ∷ tokens (p + 1) l))))
 byte-by true p b l e r = white-onto b e r
 byte-by false p b l e r = dark-by (opensWord l) p b l (not-from-false (white b) e) refl r
 
 pub tokens-worded : (p : ℕ) (bs : List ℕ) → Worded bs (bytesOf (tokens p bs))
-tokens-worded p [] = blank tt
+tokens-worded p [] = blank [] tt
 tokens-worded p (b ∷ bs) = byte-by (white b) p b bs refl (tokens-worded (p + 1) bs)
 
 -- a word stands where its first byte is
