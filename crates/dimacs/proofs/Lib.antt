@@ -10,3 +10,4 @@ pub mod Worded
 mod Comments
 mod Spelled
 pub mod Accepts
+mod Writing

@@ -9,7 +9,7 @@ use lib.ListN.{length, getD, take, drop}
 use Rattle.std.proofs.shelf.Lists.{at-drop-more, at-drop-all, take-all}
 use Rattle.std.proofs.shelf.Tests.{cond-true, eq-eqb, cases-lt}
 use Rattle.std.proofs.shelf.Ways.{tells}
-use Rattle.dimacs.specs.Numbers.{within, digits, counting, minus, unsigned, decimalAfter, decimal}
+use Rattle.dimacs.specs.Numbers.{within, digits, counting, minus, unsigned, decimalAfter, decimalValue}
 
 pub minus-cut : (bs : List ℕ) → 0 < length bs → getD bs 0 0 ≡ 45 → (true ≡ minus bs) × (take (length bs - 1) (drop 1 bs) ≡ unsigned bs)
 minus-cut [] h e = absurd (omega arith)

@@ -5,3 +5,4 @@ pub mod Heads
 pub mod Reads
 pub mod Readers
 pub mod Grammar
+pub mod Writes

@@ -42,11 +42,11 @@ abbrev pub decimalAfter : ℕ → List ℕ → ℕ
 decimalAfter n [] = n
 decimalAfter n (b ∷ bs) = decimalAfter (n * 10 + (b - 48)) bs
 
-abbrev pub decimal : List ℕ → ℕ
-decimal bs = decimalAfter 0 bs
+abbrev pub decimalValue : List ℕ → ℕ
+decimalValue bs = decimalAfter 0 bs
 
 abbrev pub magnitudeOf : List ℕ → ℕ
-magnitudeOf bs = decimal (unsigned bs)
+magnitudeOf bs = decimalValue (unsigned bs)
 
 abbrev pub valueOf : List ℕ → ℤ
 valueOf bs = cond (minus bs) (negℤ (pos (magnitudeOf bs))) (pos (magnitudeOf bs))

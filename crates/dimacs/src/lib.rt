@@ -6,3 +6,4 @@ pub mod number;
 pub mod read;
 pub mod reader;
 pub mod word;
+pub mod write;

@@ -1,7 +1,7 @@
 // The number that a word writes.
 ghost use mathlib.Core.Path.{_≡_};
 ghost use Prim.Native.Nat.{min};
-ghost use Rattle.dimacs.specs.Numbers.{minus, unsigned, digits, counting, zeroWord, isNumber, decimal, valued};
+ghost use Rattle.dimacs.specs.Numbers.{minus, unsigned, digits, counting, zeroWord, isNumber, decimalValue, valued};
 use crate::faults::WordFault;
 
 // Whether a minus stands in front, and what follows it.
@@ -53,7 +53,7 @@ pub fn is_number(bytes: &[u8]) -> bool
 
 // The number that digits write, 100,000 at most.
 fn magnitude(digits: &[u8]) -> u32
-    ensures { λ r. ⌜ r ≡ min (decimal (now (digits .entry))) 100000 ⌝ }
+    ensures { λ r. ⌜ r ≡ min (decimalValue (now (digits .entry))) 100000 ⌝ }
 {
     let mut n: u32 = 0;
     for i in 0..digits.len() {

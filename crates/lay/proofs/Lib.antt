@@ -1,0 +1,4 @@
+mod Decimals
+mod Lines
+mod Signs
+pub mod Laying
