@@ -11,3 +11,5 @@ mod Comments
 mod Spelled
 pub mod Accepts
 mod Writing
+mod Decimals
+mod RoundTrip

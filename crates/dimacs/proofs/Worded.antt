@@ -54,7 +54,7 @@ worded-tokens p (spaced s w rest {ws} hs hn hw ha r) =
     ap bytesOf (spaced-tokens p s w rest hs hn hw ha) ∙ ap (λ l. w ∷ l) (worded-tokens (p + length s + length w) r)
 
 -- one byte of white space more in front
-white-onto : (b : ℕ) {bs : List ℕ} {ws : List (List ℕ)} → white b ≡ true → Worded bs ws → Worded (b ∷ bs) ws
+pub white-onto : (b : ℕ) {bs : List ℕ} {ws : List (List ℕ)} → white b ≡ true → Worded bs ws → Worded (b ∷ bs) ws
 white-onto b e (blank s h) = blank (b ∷ s) (e, h)
 white-onto b e (spaced s w rest hs hn hw ha r) = spaced (b ∷ s) w rest (e, hs) hn hw ha r
 

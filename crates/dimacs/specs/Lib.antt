@@ -6,3 +6,4 @@ pub mod Reads
 pub mod Readers
 pub mod Grammar
 pub mod Writes
+pub mod RoundTrips

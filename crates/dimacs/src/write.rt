@@ -7,6 +7,7 @@ ghost use lib.ListN.{length};
 ghost use Rattle.cnf.specs.Tables.{clausesOf};
 ghost use Rattle.lay.specs.Laid.{laid};
 ghost use Rattle.lay.specs.Lines.{lineOf};
+ghost use Rattle.dimacs.specs.RoundTrips.{ReadsBack};
 ghost use Rattle.dimacs.specs.Writes.{piece, wordsText, headLine, tableText, written, bytesAfter};
 use cnf::refusal::Check;
 use cnf::refusal::Refusal;
@@ -78,6 +79,7 @@ fn fit(line: &Line, width: usize, room: usize) -> bool
 pub fn write(variables: usize, words: &[i32], out: &mut [u8]) -> Result<usize, Refusal>
     ensures answer { λ r. ⌜ r ≡ written variables (now (words .entry)) (length (now (out .entry))) ⌝ }
     ensures bytes { λ _. ⌜ now (out .exit) ≡ bytesAfter (written variables (now (words .entry)) (length (now (out .entry)))) (tableText variables (clausesOf (now (words .entry)))) (now (out .entry)) ⌝ }
+    ensures back { λ _. ⌜ ReadsBack variables (now (words .entry)) ⌝ }
 {
     let clauses = check_table(variables, words)?;
     let head = head_line(variables, clauses);

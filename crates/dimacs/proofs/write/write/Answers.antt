@@ -14,10 +14,14 @@ use Rattle.cnf.specs.Refusals.{refused}
 use Rattle.cnf.specs.Tables.{clausesOf}
 use Rattle.dimacs.specs.Writes.{headLine, tableText, wordsText, written, bytesAfter}
 use Rattle.dimacs.proofs.Writing.{text-is, text-length, few-words, written-is, laid-front}
+use Rattle.dimacs.proofs.RoundTrip.{reads-back}
 use Rattle.dimacs.proofs.write.write.Needs as need
 
 pub words-width-width-requires : need.words-width-width-requires
 words-width-width-requires c κs = few-words (c .args .variables) (c .args .words .now) (c .in-Continue-clauses .clauses) (sym (c .in-Continue-clauses .ensures tt .value))
+
+pub returns-in-Break-clauses : need.returns-in-Break-clauses
+returns-in-Break-clauses c = record { answer = search needs; bytes = search needs; back = reads-back (c .args .variables) (c .args .words .now) }
 
 pub returns-then-not-fit : need.returns-then-not-fit
 returns-then-not-fit c =
@@ -29,7 +33,7 @@ returns-then-not-fit c =
     let l = text-length v ws n e in
     let x = leb-false _ _ (sym (c .if-not-fit .ensures tt)) in
     let r : written v ws (length (c .args .out .now)) ≡ Err (refused BytesRoom 0) = written-is v ws n e (length (c .args .out .now)) ∙ cond-false _ _ _ (lt-leb (length (tableText v (clausesOf ws))) (length (c .args .out .now)) (omega (arith, c .words-width-width .ensures))) in
-    record { answer = sym r; bytes = sym (ap (λ y. bytesAfter y (tableText v (clausesOf ws)) (c .args .out .now)) r) }
+    record { answer = sym r; bytes = sym (ap (λ y. bytesAfter y (tableText v (clausesOf ws)) (c .args .out .now)) r); back = reads-back v ws }
 
 pub returns : need.returns
 returns c =
@@ -55,4 +59,5 @@ returns c =
           ∙ ap (laid out 0) (text-is v ws n e)
           ∙ laid-front out (tableText v (clausesOf ws))
           ∙ sym (ap (λ y. bytesAfter y (tableText v (clausesOf ws)) out) r);
+      back = reads-back v ws;
     }
