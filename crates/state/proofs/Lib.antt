@@ -1,0 +1,5 @@
+pub mod Models
+pub mod Facts
+pub mod Moves
+pub mod Asks
+pub mod Truths

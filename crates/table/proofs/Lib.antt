@@ -1,0 +1,11 @@
+pub mod Shares
+pub mod Inside
+pub mod Step
+pub mod Whole
+pub mod Skips
+pub mod Reweighs
+pub mod Weighings
+pub mod Begins
+pub mod Weighs
+pub mod Passing
+pub mod Facts

@@ -1,0 +1,3 @@
+pub mod Weights
+pub mod Rows
+pub mod Sound
