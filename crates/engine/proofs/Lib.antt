@@ -1,0 +1,3 @@
+mod Folds
+mod StepCases
+mod Going
