@@ -154,3 +154,34 @@ continued-still (step.Moved v) r m s h = absurd h
 pub stops-still : {Σ : Type 0} (f : Levels) (u : Meaning Σ) (b : ℕ) (m₀ : Model) (s₀ : Σ) (old : List Move) (i : ℕ) (m : Model) (s : Σ) (trail : List Move) (dives : ℕ) (a : Stepped) → i < b → Going f u b m₀ s₀ old i m s trail dives → stepped f (offer u s) m .answer ≡ a → Still a → Stops (run f u b m₀ s₀) old (outcomeOf a) i dives m s trail
 stops-still f u b m₀ s₀ old i m s trail dives a h g e q =
     stops f u b m₀ s₀ old i m s trail dives (outcomeOf a) g (turn f u b m₀ s₀ old i m s h ∙ ap (λ x. continued x (run f u (b - (i + 1)) (stepped f (offer u s) m .model) (left u x s)) m s) e ∙ continued-still a _ m s q)
+
+greedy-filled : (f : Levels) (o p : Option ℕ) (m : Model) → Filled m → Filled (greedy-or f o p m .model)
+greedy-filled f o (Some x) m h = filling .flip m x h
+greedy-filled f (Some d) None m h = filling .flip (weighed m) (valueOr (divePick (weighed m) (drawn d m)) 0) (filling .weighing m h)
+greedy-filled f None None m h = h
+
+filled-by : (b : Bool) (f : Levels) (o : Option ℕ) (m : Model) → Filled m → Filled (cond b (record { answer = step.Found; model = m }) (greedy-or f o (pick f m) m) .model)
+filled-by true f o m h = h
+filled-by false f o m h = greedy-filled f o (pick f m) m h
+
+pub step-filled : (f : Levels) (o : Option ℕ) (m : Model) → Filled m → Filled (stepped f o m .model)
+step-filled f o m h = filled-by (none-left m) f o m h
+
+-- what a run does to them
+pub record Ran (m n : Model) : Type 0 where
+  pub variables : n .variables ≡ m .variables
+  pub filled : Filled n
+  pub paced : Paced n
+
+ran-by : {Σ : Type 0} (a : Stepped) (r : Run Σ) (m : Model) (s : Σ) → Ran m m → Ran m (r .model) → Ran m (continued a r m s .model)
+ran-by step.Found r m s p q = p
+ran-by step.Dry r m s p q = p
+ran-by (step.Moved v) r m s p q = q
+
+pub run-sound : {Σ : Type 0} (f : Levels) (u : Meaning Σ) (b : ℕ) (m : Model) (s : Σ) → Filled m → Paced m → Ran m (run f u b m s .model)
+run-sound f u zero m s h q = record { variables = refl; filled = h; paced = q }
+run-sound f u (suc b) m s h q =
+    let a = stepped f (offer u s) m in
+    let p = step-sound f (offer u s) m h q in
+    let r = run-sound f u b (a .model) (left u (a .answer) s) (step-filled f (offer u s) m h) (p .paced) in
+    ran-by (a .answer) (run f u b (a .model) (left u (a .answer) s)) m s (record { variables = refl; filled = h; paced = q }) (record { variables = r .variables ∙ p .variables; filled = r .filled; paced = r .paced })

@@ -1,6 +1,6 @@
 -- What a step does, by cases.
 use mathlib.Core.Bool.{Bool, true, false, cond, true≢false, not}
-use mathlib.Core.Path.{_≡_, refl, sym, ap, _∙_}
+use mathlib.Core.Path.{_≡_, refl, sym, ap, subst, _∙_}
 use Prim.Native.Nat.{ℕ, _<_}
 use native.Mathlib.Omega.{arith}
 use lib.Dec.{eqb}
@@ -10,7 +10,10 @@ use Rattle.std.specs.declared.option.Option.{Option}
 use Rattle.std.specs.declared.option.Option.the-variants.{Some, None}
 use Rattle.policy.specs.Levels.{Levels}
 use Rattle.policy.specs.Sources.{Meaning}
-use Rattle.state.specs.Model.{Model, unsatisfied}
+use Rattle.state.specs.Model.{Model, Paced, unsatisfied}
+use Rattle.state.specs.Theorems.{Filled}
+use Rattle.state.proofs.Moves.{keeps}
+use Rattle.state.proofs.Truths.{filled}
 use Rattle.state.specs.declared.search.Search.{Search}
 use Rattle.state.specs.Searches.{model, modelOf, hasFormula}
 use Rattle.engine.specs.declared.answers.Stepped.the-variants as step
@@ -34,3 +37,10 @@ known s m e = known-by (hasFormula s) (model s) m e
 
 pub has-model : (s : Search) → hasFormula s ≡ true → modelOf s ≡ Some (model s)
 has-model s h = cond-true _ _ _ h
+
+-- what an engine keeps true, by its model
+pub stays : (s : Search) (m : Model) → modelOf s ≡ Some m → Paced m → 0 < m .variables → (hasFormula s ≡ true → Paced (model s)) × ((hasFormula s ≡ true → 0 < model s .variables) × Unit {0})
+stays s m e p v = let k = known s m e in (λ _. subst Paced (sym (k .1)) p, (λ _. omega (arith, ap (λ x. x .variables) (k .1)), tt))
+
+pub filled-search : (s : Search) → hasFormula s ≡ true → Filled (model s)
+filled-search s h = filled (s .given) (s .formula) (s .occurrences) (s .table) (keeps s h)

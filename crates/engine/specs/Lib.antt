@@ -1,2 +1,4 @@
 pub mod Picks
 pub mod Steps
+pub mod Calls
+pub mod Engines

@@ -1,5 +1,6 @@
 // The engine: every call with its refusals, steps and runs over any policy and source, and a series of calls.
 pub mod answers;
+pub mod calls;
 pub mod engine;
 mod picks;
 mod runs;
