@@ -15,7 +15,7 @@ use Rattle.policy.specs.Levels.{Levels}
 use Rattle.state.specs.Model.{Model}
 use Rattle.engine.specs.Picks.{levelOf, admits, goesBefore, challenged, bestOf, pick}
 
-passed-by : (before : ℕ → ℕ → Bool) (xs : List ℕ) (x : ℕ) (b : Bool) → bestOf before (xs ++ cond b (x ∷ []) []) ≡ cond b (challenged before (bestOf before xs) x) (bestOf before xs)
+pub passed-by : (before : ℕ → ℕ → Bool) (xs : List ℕ) (x : ℕ) (b : Bool) → bestOf before (xs ++ cond b (x ∷ []) []) ≡ cond b (challenged before (bestOf before xs) x) (bestOf before xs)
 passed-by before xs x true = folded-push (challenged before) None xs x
 passed-by before xs x false = ap (bestOf before) (append-nil xs)
 

@@ -1,3 +1,6 @@
 mod Folds
 mod StepCases
 mod Going
+mod Firsts
+mod Means
+mod Histories

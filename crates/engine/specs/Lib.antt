@@ -2,3 +2,4 @@ pub mod Picks
 pub mod Steps
 pub mod Calls
 pub mod Engines
+pub mod Laws

@@ -3,5 +3,6 @@ pub mod answers;
 pub mod calls;
 pub mod engine;
 mod picks;
+pub mod questions;
 mod runs;
 pub mod steps;
