@@ -3,3 +3,4 @@ pub mod Steps
 pub mod Calls
 pub mod Engines
 pub mod Laws
+pub mod Series

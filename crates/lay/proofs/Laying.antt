@@ -9,7 +9,9 @@ use borrow.Rule.Slice.PartMut.{putMid}
 use lib.ListN.{length, take, drop, set, length-append}
 use Rattle.std.proofs.shelf.Lists.{set-split, drop-drop}
 use Rattle.std.proofs.shelf.Parts.{overwrites, take-putMid, drop-putMid}
-use Rattle.lay.specs.Laid.{laid}
+use Rattle.std.proofs.shelf.Tests.{cond-true, le-leb}
+use Rattle.std.specs.declared.option.Option.the-variants.{Some}
+use Rattle.lay.specs.Laid.{laid, put}
 
 -- one byte
 pub laid-one : (out : List ℕ) (at b : ℕ) → at < length out → set out at b ≡ laid out at (b ∷ [])
@@ -49,3 +51,7 @@ stands-more out at bs o k more next j h s e l =
     let d = s .end in
     let together : laid (laid out at bs) (at + length bs) more ≡ laid out at (bs ++ more) = laid-laid out bs more at h in
     record { bytes = cc; end = simp length-append (omega arith) }
+
+-- bytes that stand where they fit are put
+pub stands-put : (out : List ℕ) (at : ℕ) (bs o : List ℕ) (k : ℕ) → Stands out at bs o k → at + length bs ≤ length out → (Some k, o) ≡ put out at bs
+stands-put out at bs o k s h = ap (λ j. (Some j, o)) (s .end) ∙ ap (λ x. (Some (at + length bs), x)) (s .bytes) ∙ sym (cond-true _ _ _ (le-leb _ _ h))

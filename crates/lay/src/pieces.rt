@@ -22,10 +22,10 @@ pub fn number_width(number: usize) -> usize
     ensures few { λ r. ⌜ r ≤ 20 ⌝ }
 {
     if number < 10 {
-        1
-    } else {
-        number_width(number / 10) + 1
+        return 1;
     }
+    let front = number_width(number / 10);
+    front + 1
 }
 
 // Lays the decimal digits of a number, and gives the place after them.
@@ -36,12 +36,11 @@ pub fn lay_number(out: &mut [u8], at: usize, number: usize) -> usize
 {
     if number < 10 {
         out[at] = 48 + number as u8;
-        at + 1
-    } else {
-        let last = lay_number(out, at, number / 10);
-        out[last] = 48 + (number % 10) as u8;
-        last + 1
+        return at + 1;
     }
+    let last = lay_number(out, at, number / 10);
+    out[last] = 48 + (number % 10) as u8;
+    last + 1
 }
 
 // How many bytes a signed number takes, with its minus.

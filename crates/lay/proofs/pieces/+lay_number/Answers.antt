@@ -19,8 +19,8 @@ lay-number-last-requires t c κs = (omega arith, omega (arith, width-step (c .ar
 pub index-out-last : need.index-out-last
 index-out-last t c = omega (arith, width-step (c .args .number) (omega arith) (omega arith))
 
-pub add-result-else-number-lt10 : need.add-result-else-number-lt10
-add-result-else-number-lt10 t c = record { fits = omega (arith, width-step (c .args .number) (omega arith) (omega arith)) }
+pub add-result-2 : need.add-result-2
+add-result-2 t c = record { fits = omega (arith, width-step (c .args .number) (omega arith) (omega arith)) }
 
 pub returns-then-number-lt10 : need.returns-then-number-lt10
 returns-then-number-lt10 t c =
@@ -30,8 +30,8 @@ returns-then-number-lt10 t c =
       bytes = laid-one (c .args .out .now) (c .args .at) (48 + c .args .number) (omega (arith, ap length e)) ∙ ap (laid (c .args .out .now) (c .args .at)) (sym e);
     }
 
-pub returns-else-number-lt10 : need.returns-else-number-lt10
-returns-else-number-lt10 t c =
+pub returns : need.returns
+returns t c =
     let e : decimal (c .args .number) ≡ decimal (c .args .number / 10) ++ ((48 + c .args .number % 10) ∷ []) = decimal-step (c .args .number) (omega arith) (omega arith) in
     let w = width-step (c .args .number) (omega arith) (omega arith) in
     let more = laid-more (c .args .out .now) (decimal (c .args .number / 10)) (c .args .at) (48 + c .args .number % 10) (omega (arith, w)) in

@@ -10,7 +10,7 @@ use Rattle.lay.proofs.pieces.+number_width.Needs as need
 pub returns-then-number-lt10 : need.returns-then-number-lt10
 returns-then-number-lt10 t c = search (needs, decimal-digit)
 
-pub returns-else-number-lt10 : need.returns-else-number-lt10
-returns-else-number-lt10 t c =
+pub returns : need.returns
+returns t c =
     let few : length (decimal (c .args .number)) ≤ 20 = length-decimal-le 20 (c .args .number) (omega arith) (omega arith) (omega arith) in
     record { value = omega (arith, width-step (c .args .number) (omega arith) (omega arith)); few = omega (arith, width-step (c .args .number) (omega arith) (omega arith)) }

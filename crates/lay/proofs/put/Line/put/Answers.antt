@@ -1,14 +1,12 @@
-use mathlib.Core.Path.{_≡_, refl, ap, sym, _∙_}
+use mathlib.Core.Path.{_≡_, ap, _∙_}
 use mathlib.Core.List.{_++_, append-assoc}
 use Prim.Native.Nat.{_+_, _≤_}
 use native.Mathlib.Omega.{arith}
 use lib.ListN.{length}
 use Rattle.std.specs.Written.{decimal}
-use Rattle.std.proofs.shelf.Tests.{cond-true, le-leb}
-use Rattle.std.specs.declared.option.Option.the-variants.{Some}
 use Rattle.lay.specs.Laid.{laid}
 use Rattle.lay.specs.Lines.{lineOf}
-use Rattle.lay.proofs.Laying.{Stands, stands-more}
+use Rattle.lay.proofs.Laying.{Stands, stands-more, stands-put}
 use Rattle.lay.proofs.Lines.{length-line, line-room}
 use Rattle.lay.proofs.put.Line.put.Needs as need
 
@@ -45,6 +43,5 @@ returns c =
     let s3 = stands-more out at ((a ++ m) ++ b) _ _ n _ _ h s2 (c .lay-number-after .ensures .bytes) (c .lay-number-after .ensures .end) in
     let s4 = stands-more out at (((a ++ m) ++ b) ++ n) _ _ d _ _ h s3 (c .lay-bytes .ensures .bytes) (c .lay-bytes .ensures .end) in
     let whole : (((a ++ m) ++ b) ++ n) ++ d ≡ lineOf l = simp append-assoc in
-    let bytes = s4 .bytes ∙ ap (laid out at) whole in
-    let end = s4 .end ∙ ap (λ x. at + length x) whole in
-    ap (λ p. (Some p, c .lay-bytes .last .out)) end ∙ ap (λ o. (Some (at + length (lineOf l)), o)) bytes ∙ sym (cond-true _ _ _ (le-leb _ _ room))
+    let s : Stands out at (lineOf l) (c .lay-bytes .last .out) (c .lay-bytes .result) = record { bytes = s4 .bytes ∙ ap (laid out at) whole; end = s4 .end ∙ ap (λ x. at + length x) whole } in
+    stands-put out at (lineOf l) (c .lay-bytes .last .out) (c .lay-bytes .result) s room

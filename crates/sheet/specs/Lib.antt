@@ -1,0 +1,4 @@
+pub mod Texts
+pub mod Sheets
+pub mod RefusedLines
+pub mod Promises
