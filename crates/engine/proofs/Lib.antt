@@ -4,3 +4,4 @@ mod Going
 mod Firsts
 mod Means
 mod Histories
+mod Looks

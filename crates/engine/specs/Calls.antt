@@ -74,7 +74,7 @@ pub record Drawing (A Σ : Type 0) : Type 0 where
 abbrev pub undrawn : {A Σ : Type 0} → Refusal → Option Model → Σ → Drawing A Σ
 undrawn f o s = record { answer = Err f; model = o; source = s }
 
-abbrev pub stepReply : {Σ : Type 0} → Levels → Meaning Σ → Option Model → Σ → Drawing Stepped Σ
+unfoldable pub stepReply : {Σ : Type 0} → Levels → Meaning Σ → Option Model → Σ → Drawing Stepped Σ
 stepReply f u None s = undrawn (refused HasFormula 0) None s
 stepReply f u (Some m) s =
     cond (leb (m .tick + 1) 1000000)
@@ -89,7 +89,7 @@ abbrev pub runWith : {Σ : Type 0} → Result Unit Refusal → Levels → Meanin
 runWith (Ok x) f u b m s = record { answer = Ok (counts (run f u b m s)); model = Some (run f u b m s .model); source = run f u b m s .source }
 runWith (Err e) f u b m s = undrawn e (Some m) s
 
-abbrev pub runReply : {Σ : Type 0} → Levels → Meaning Σ → ℕ → Option Model → Σ → List Move → Drawing (Outcome × ℕ × ℕ) Σ
+unfoldable pub runReply : {Σ : Type 0} → Levels → Meaning Σ → ℕ → Option Model → Σ → List Move → Drawing (Outcome × ℕ × ℕ) Σ
 runReply f u b None s trail = undrawn (refused HasFormula 0) None s
 runReply f u b (Some m) s trail = runWith (runChecked b trail m) f u b m s
 
@@ -98,7 +98,7 @@ abbrev pub trailWith : {Σ : Type 0} → Result Unit Refusal → Levels → Mean
 trailWith (Ok x) f u b m s trail = trailed (run f u b m s .moves) trail
 trailWith (Err e) f u b m s trail = trail
 
-abbrev pub runTrail : {Σ : Type 0} → Levels → Meaning Σ → ℕ → Option Model → Σ → List Move → List Move
+unfoldable pub runTrail : {Σ : Type 0} → Levels → Meaning Σ → ℕ → Option Model → Σ → List Move → List Move
 runTrail f u b None s trail = trail
 runTrail f u b (Some m) s trail = trailWith (runChecked b trail m) f u b m s trail
 

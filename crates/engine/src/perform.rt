@@ -2,9 +2,11 @@
 ghost use mathlib.Core.Path.{_≡_};
 ghost use mathlib.Core.List.{List, []};
 ghost use Rattle.engine.specs.Engines.{held};
-ghost use Rattle.engine.specs.Series.{lent, look, loadWith, restartWith, stepWith, runWith, answered, perform as performed};
+ghost use Rattle.engine.specs.Series.{lent, look, loadWith, restartWith, stepWith, runWith, given, ranAs, answered, perform as performed};
 ghost use Prim.Native.Nat.{ℕ};
 use crate::answers::Move;
+use crate::answers::Outcome;
+use crate::answers::Stepped;
 use crate::call::Answer;
 use crate::call::Call;
 use crate::call::Part;
@@ -61,4 +63,44 @@ fn ask(engine: &Engine, question: Question) -> Result<Answer, Refusal>
         Question::Unsatisfied => Ok(Answer::Count(engine.unsatisfied_count()?)),
         Question::UnsatisfiedAt(place) => Ok(Answer::Count(engine.unsatisfied_at(place)?)),
     }
+}
+
+// What a step answered, as the answer of a series.
+fn step_answer(result: Result<Stepped, Refusal>) -> Result<Answer, Refusal>
+    ensures { λ r. ⌜ r ≡ given Answer.Stepped result ⌝ }
+{
+    Ok(Answer::Stepped(result?))
+}
+
+// What a run answered, as the answer of a series.
+fn run_answer(result: Result<(Outcome, usize, usize), Refusal>) -> Result<Answer, Refusal>
+    ensures { λ r. ⌜ r ≡ given ranAs result ⌝ }
+{
+    let (outcome, steps, dives) = result?;
+    Ok(Answer::Ran(outcome, steps, dives))
+}
+
+// A step with one of the lent policies and one of the lent sources.
+fn step_with<P: Policy, S: Source>(engine: &mut Engine, policies: &[P], sources: &mut [S], policy: usize, source: usize) -> Result<Answer, Refusal>
+    ensures reply { λ r. ⌜ r ≡ stepWith (P·Policy .level) (S·Source .meaning) (look (now (policies .entry)) policy) (look (now (sources .entry)) source) source (held (now (engine .entry))) (now (sources .entry)) [] .reply ⌝ }
+    ensures model { λ _. ⌜ held (now (engine .exit)) ≡ stepWith (P·Policy .level) (S·Source .meaning) (look (now (policies .entry)) policy) (look (now (sources .entry)) source) source (held (now (engine .entry))) (now (sources .entry)) [] .model ⌝ }
+    ensures sources { λ _. ⌜ now (sources .exit) ≡ stepWith (P·Policy .level) (S·Source .meaning) (look (now (policies .entry)) policy) (look (now (sources .entry)) source) source (held (now (engine .entry))) (now (sources .entry)) [] .sources ⌝ }
+{
+    if policy >= policies.len() || source >= sources.len() {
+        return Err(refusal(Check::InRange));
+    }
+    step_answer(engine.step(&policies[policy], &mut sources[source]))
+}
+
+// A run with one of the lent policies and one of the lent sources.
+fn run_with<P: Policy, S: Source>(engine: &mut Engine, policies: &[P], sources: &mut [S], trail: &mut [Move], policy: usize, source: usize, budget: usize) -> Result<Answer, Refusal>
+    ensures reply { λ r. ⌜ r ≡ runWith (P·Policy .level) (S·Source .meaning) (look (now (policies .entry)) policy) (look (now (sources .entry)) source) source budget (held (now (engine .entry))) (now (sources .entry)) (now (trail .entry)) .reply ⌝ }
+    ensures model { λ _. ⌜ held (now (engine .exit)) ≡ runWith (P·Policy .level) (S·Source .meaning) (look (now (policies .entry)) policy) (look (now (sources .entry)) source) source budget (held (now (engine .entry))) (now (sources .entry)) (now (trail .entry)) .model ⌝ }
+    ensures sources { λ _. ⌜ now (sources .exit) ≡ runWith (P·Policy .level) (S·Source .meaning) (look (now (policies .entry)) policy) (look (now (sources .entry)) source) source budget (held (now (engine .entry))) (now (sources .entry)) (now (trail .entry)) .sources ⌝ }
+    ensures trail { λ _. ⌜ now (trail .exit) ≡ runWith (P·Policy .level) (S·Source .meaning) (look (now (policies .entry)) policy) (look (now (sources .entry)) source) source budget (held (now (engine .entry))) (now (sources .entry)) (now (trail .entry)) .trail ⌝ }
+{
+    if policy >= policies.len() || source >= sources.len() {
+        return Err(refusal(Check::InRange));
+    }
+    run_answer(engine.run(&policies[policy], &mut sources[source], budget, trail))
 }
