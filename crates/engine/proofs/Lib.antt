@@ -5,3 +5,4 @@ mod Firsts
 mod Means
 mod Histories
 mod Looks
+mod Performs

@@ -136,7 +136,7 @@ answered ask.Unsatisfied o = given answer.Count (ofModel unsatisfiedCount o)
 answered (ask.UnsatisfiedAt p) o = given answer.Count (unsatisfiedAt p o)
 
 -- what one call does, lent these words, starts and policies
-abbrev pub perform : {Π Σ : Type 0} → (Π → Levels) → Meaning Σ → List ℤ → List ℕ → List Π → Call → Option Model → List Σ → List Move → Performed Σ
+unfoldable pub perform : {Π Σ : Type 0} → (Π → Levels) → Meaning Σ → List ℤ → List ℕ → List Π → Call → Option Model → List Σ → List Move → Performed Σ
 perform lv u ws starts ps (call.Load v p q) o ss trail = loadWith v (lent ws p) (lent starts q) o ss trail
 perform lv u ws starts ps (call.Restart q) o ss trail = restartWith (lent starts q) o ss trail
 perform lv u ws starts ps (call.Flip x) o ss trail = told (flipReply x o) (flips (x - 1) ∷ []) ss trail

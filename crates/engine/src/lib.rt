@@ -3,7 +3,7 @@ pub mod answers;
 pub mod call;
 pub mod calls;
 pub mod engine;
-mod perform;
+pub mod perform;
 mod picks;
 pub mod questions;
 mod runs;

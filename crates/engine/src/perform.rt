@@ -104,3 +104,29 @@ fn run_with<P: Policy, S: Source>(engine: &mut Engine, policies: &[P], sources: 
     }
     run_answer(engine.run(&policies[policy], &mut sources[source], budget, trail))
 }
+
+// What a call that answers nothing else answered, as the answer of a series.
+fn done_answer(result: Result<(), Refusal>) -> Result<Answer, Refusal>
+    ensures { λ r. ⌜ r ≡ given (λ _. Answer.Done) result ⌝ }
+{
+    result?;
+    Ok(Answer::Done)
+}
+
+// One call, lent words, starts, policies, sources and a trail.
+pub fn perform<P: Policy, S: Source>(engine: &mut Engine, call: Call, words: &[i32], starts: &[u8], policies: &[P], sources: &mut [S], trail: &mut [Move]) -> Result<Answer, Refusal>
+    ensures reply { λ r. ⌜ r ≡ performed (P·Policy .level) (S·Source .meaning) (now (words .entry)) (now (starts .entry)) (now (policies .entry)) call (held (now (engine .entry))) (now (sources .entry)) (now (trail .entry)) .reply ⌝ }
+    ensures model { λ _. ⌜ held (now (engine .exit)) ≡ performed (P·Policy .level) (S·Source .meaning) (now (words .entry)) (now (starts .entry)) (now (policies .entry)) call (held (now (engine .entry))) (now (sources .entry)) (now (trail .entry)) .model ⌝ }
+    ensures sources { λ _. ⌜ now (sources .exit) ≡ performed (P·Policy .level) (S·Source .meaning) (now (words .entry)) (now (starts .entry)) (now (policies .entry)) call (held (now (engine .entry))) (now (sources .entry)) (now (trail .entry)) .sources ⌝ }
+    ensures trail { λ _. ⌜ now (trail .exit) ≡ performed (P·Policy .level) (S·Source .meaning) (now (words .entry)) (now (starts .entry)) (now (policies .entry)) call (held (now (engine .entry))) (now (sources .entry)) (now (trail .entry)) .trail ⌝ }
+{
+    match call {
+        Call::Load { variables, words: part, start } => load_from(engine, variables, words, part, starts, start),
+        Call::Restart { start } => restart_from(engine, starts, start),
+        Call::Flip { variable } => done_answer(engine.flip(variable)),
+        Call::Weigh => done_answer(engine.weigh()),
+        Call::Step { policy, source } => step_with(engine, policies, sources, policy, source),
+        Call::Run { policy, source, budget } => run_with(engine, policies, sources, trail, policy, source, budget),
+        Call::Ask { question } => ask(engine, question),
+    }
+}
