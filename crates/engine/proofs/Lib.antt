@@ -6,3 +6,4 @@ mod Means
 mod Histories
 mod Looks
 mod Performs
+mod Ties

@@ -4,3 +4,4 @@ pub mod Calls
 pub mod Engines
 pub mod Laws
 pub mod Series
+pub mod Promises

@@ -6,5 +6,6 @@ pub mod engine;
 pub mod perform;
 mod picks;
 pub mod questions;
+pub mod replay;
 mod runs;
 pub mod steps;
