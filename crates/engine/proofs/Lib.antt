@@ -7,3 +7,4 @@ mod Histories
 mod Looks
 mod Performs
 mod Ties
+mod Rests
