@@ -4,6 +4,7 @@ ghost use mathlib.Core.Bool.{true, _||_};
 ghost use Prim.Native.Nat.{_+_, _<_, _≤_};
 ghost use lib.ListN.{length};
 ghost use Rattle.cnf.specs.Tables.{Legal, clausesOf};
+ghost use Rattle.formula.specs.Entries.{entryOf};
 ghost use Rattle.formula.specs.Formulas.{Sized, Made, keptIn, Added, Holds, FirstZero};
 use crate::entry::Entry;
 use crate::entry::entry_of;
@@ -55,11 +56,12 @@ impl Formula {
         }
     }
 
-    // Puts the entry behind the others, if its clause names the variable at all.
-    fn keep(&mut self, e: Entry)
-        requires { ⌜ ((e .plain || e .negated) ≡ true → now self .used < 4096) ⌝ }
-        ensures { λ _. ⌜ now (self .exit) ≡ keptIn (now (self .entry)) e ⌝ }
+    // Puts the clause's entry of the variable behind the others, if the clause names the variable at all.
+    fn keep(&mut self, clause: &[i32], variable: u8)
+        requires { ⌜ ((entryOf (now clause) variable .plain || entryOf (now clause) variable .negated) ≡ true → now self .used < 4096) ⌝ }
+        ensures { λ _. ⌜ now (self .exit) ≡ keptIn (now (self .entry)) (entryOf (now (clause .entry)) variable) ⌝ }
     {
+        let e = entry_of(clause, variable);
         if e.plain || e.negated {
             self.entries[self.used as usize] = e;
             self.used += 1;
@@ -73,7 +75,7 @@ impl Formula {
     {
         let start = self.used;
         for v in 0..self.variables {
-            self.keep(entry_of(clause, v as u8));
+            self.keep(clause, v as u8);
         }
         self.spans[self.clauses as usize] = Span {
             start,

@@ -4,7 +4,7 @@ ghost use mathlib.Core.Bool.{true};
 ghost use Prim.Native.Nat.{_+_, _<_, _≤_};
 ghost use lib.ListN.{length};
 ghost use Rattle.formula.specs.Formulas.{Made, entriesOf};
-ghost use Rattle.formula.specs.Occurrences.{Rows, OccursTo, Occurs, listedIn, passing, namesAt};
+ghost use Rattle.formula.specs.Occurrences.{Rows, OccursTo, Occurs, listedIn, passing, namesAt, placesOf, occurringIn};
 use crate::entry::names;
 use crate::formula::Formula;
 use crate::formula::Span;
@@ -40,6 +40,15 @@ impl Occurrences {
             spans: [Span { start: 0, end: 0 }; 256],
             clauses: [0; 4096],
         }
+    }
+
+    // The clauses that name the variable, rising.
+    pub fn clauses_of(&self, variable: usize) -> &[u16]
+        requires { ⌜ variable < 256 ⌝ ∗ ⌜ length (now self .clauses) ≡ 4096 ⌝ ∗ ⌜ placesOf (now self) variable .start ≤ placesOf (now self) variable .end ⌝ ∗ ⌜ placesOf (now self) variable .end ≤ 4096 ⌝ }
+        ensures { λ r. ⌜ now r ≡ occurringIn (now (self .entry)) variable ⌝ }
+    {
+        let span = self.spans[variable];
+        &self.clauses[span.start as usize..span.end as usize]
     }
 
     // Puts the clause's number behind the others, if it is named.

@@ -11,7 +11,7 @@ use Rattle.std.specs.shelf.Lists.{sum}
 use Rattle.cnf.specs.Tables.{Assignment, satisfied, clausesOf}
 use Rattle.formula.specs.Clauses.{names, flipAt, anyTo}
 use Rattle.formula.specs.Occurrences.{passing}
-use Rattle.table.specs.Weights.{shareOf}
+use Rattle.table.specs.Weights.{heavy, shareOf, eased}
 
 pub record Model : Type 0 where
   pub variables : ℕ
@@ -94,7 +94,7 @@ gainedBy a (c ∷ cs) (w ∷ ws) = cond (satisfied a c) w (w + 1) ∷ gainedBy a
 
 -- the weights, smoothed if they are more than 300 on average
 abbrev pub smoothed : ℕ → List ℕ → List ℕ
-smoothed v ws = cond (ltb (300 * length ws) (sum ws)) (map (λ w. 3 * w / 10 + shareOf v (length ws) (sum ws)) ws) ws
+smoothed v ws = cond (heavy (length ws) (sum ws)) (map (λ w. eased (shareOf v (length ws) (sum ws)) w) ws) ws
 
 abbrev pub weighed : Model → Model
 weighed m =

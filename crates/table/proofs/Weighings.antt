@@ -10,7 +10,7 @@ use Rattle.formula.specs.declared.formula.Formula.{Formula}
 use Rattle.formula.specs.Clauses.{sumTo}
 use Rattle.formula.proofs.Sums.{at-all, sumTo-same, sumTo-le, sumTo-add, sumTo-const}
 use Rattle.table.specs.declared.table.Table.{Table}
-use Rattle.table.specs.Rows.{turn, weightAt, countAt, gained, eased, reweighted}
+use Rattle.table.specs.Rows.{turn, weightAt, countAt, gained, easedAt, reweighted}
 use Rattle.table.specs.Sound.{Sound, Reweighed, Weighing}
 use native.Mathlib.Nat.{suc-mul, div-mul-le-self, mul-comm, mul-assoc}
 
@@ -67,10 +67,10 @@ pub tenths : (n : ℕ) (W : ℕ → ℕ) → 10 * sumTo n (λ k. 3 * W k / 10) �
 tenths zero W = omega arith
 tenths (suc n) W = omega (arith, tenths n W)
 
-pub eased-light : (n : ℕ) (t : Table) (share : ℕ) → sumTo n (eased t share) ≤ sumTo n (weightAt t) + n * share
+pub eased-light : (n : ℕ) (t : Table) (share : ℕ) → sumTo n (easedAt t share) ≤ sumTo n (weightAt t) + n * share
 eased-light n t share = omega (arith, sumTo-add n (λ k. 3 * weightAt t k / 10) (λ _. share), sumTo-const n share, tenths n (weightAt t))
 
-pub eased-le : (n : ℕ) (t : Table) → 0 < n → sumTo n (eased t (7 * sumTo n (weightAt t) / (10 * n))) ≤ sumTo n (weightAt t)
+pub eased-le : (n : ℕ) (t : Table) → 0 < n → sumTo n (easedAt t (7 * sumTo n (weightAt t) / (10 * n))) ≤ sumTo n (weightAt t)
 eased-le n t p =
     let S = sumTo n (weightAt t) in
     let q = 7 * S / (10 * n) in

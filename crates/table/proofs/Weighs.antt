@@ -12,7 +12,7 @@ use Rattle.formula.specs.Formulas.{Made}
 use Rattle.formula.proofs.Sums.{sumTo-same}
 use Rattle.table.specs.declared.table.Table.{Table}
 use Rattle.table.specs.Weights.{shareOf}
-use Rattle.table.specs.Rows.{weightAt, countAt, gained, eased}
+use Rattle.table.specs.Rows.{weightAt, countAt, gained, easedAt}
 use Rattle.table.specs.Sound.{Sound, Weighing, Weighed, weighedAt}
 use Rattle.table.proofs.Weighings.{gained-light, share-le}
 
@@ -65,7 +65,7 @@ module _ (f : Formula) (t u : Table) (made : Made f) (s : Sound f t) (small : t 
         ticks = w .ticks;
       }
 
-  pub smoothed : (share : ℕ) (v : Table) → 300 * f .clauses < u .total → share ≡ shareOf (f .variables) (f .clauses) (u .total) → Weighing f (eased u share) (f .clauses) u v → Weighed f t v
+  pub smoothed : (share : ℕ) (v : Table) → 300 * f .clauses < u .total → share ≡ shareOf (f .variables) (f .clauses) (u .total) → Weighing f (easedAt u share) (f .clauses) u v → Weighed f t v
   smoothed share v h e x =
       let n : ltb (300 * f .clauses) (sumTo (f .clauses) (gained t)) ≡ true = lt-ltb _ _ (omega (arith, total-is)) in
       let q : share ≡ shareOf (f .variables) (f .clauses) (sumTo (f .clauses) (gained t)) = e ∙ ap (shareOf (f .variables) (f .clauses)) total-is in

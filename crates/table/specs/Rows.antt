@@ -12,6 +12,7 @@ use Rattle.formula.specs.declared.formula.Formula.{Formula}
 use Rattle.formula.specs.Clauses.{sumTo, anyTo, flipAt}
 use Rattle.formula.specs.Entries.{trues, count, namedIn}
 use Rattle.formula.specs.Formulas.{entriesOf}
+use Rattle.table.specs.Weights.{eased}
 use Rattle.table.specs.declared.table.Row.{Row}
 use Rattle.table.specs.declared.table.ClauseRow.{ClauseRow}
 use Rattle.table.specs.declared.table.Table.{Table}
@@ -138,8 +139,8 @@ abbrev pub gained : Table → ℕ → ℕ
 gained t k = weightAt t k + cond (eqb (countAt t k) 0) 1 0
 
 -- the weights after smoothing
-abbrev pub eased : Table → ℕ → ℕ → ℕ
-eased t share k = 3 * weightAt t k / 10 + share
+abbrev pub easedAt : Table → ℕ → ℕ → ℕ
+easedAt t share k = eased share (weightAt t k)
 
 -- the clause i gets the weight w
 abbrev pub reweighted : (ℕ → ℕ) → ℕ → ℕ → ℕ → ℕ

@@ -12,7 +12,7 @@ use Rattle.formula.specs.Clauses.{sumTo, anyTo, flipAt}
 use Rattle.formula.specs.Entries.{count, namedIn}
 use Rattle.formula.specs.Formulas.{entriesOf}
 use Rattle.table.specs.declared.table.Table.{Table}
-use Rattle.table.specs.Weights.{shareOf}
+use Rattle.table.specs.Weights.{heavy, shareOf, eased}
 use Rattle.table.specs.Rows.{Rules, loss, costIn, scoreIn, nearIn, changedIn, turn, rowAt, valueAt, scoreAt, stampAt, changedAt, weightAt, countAt, rulesOf, reweighted, gained}
 
 -- the lengths that the arrays have by their types
@@ -115,8 +115,8 @@ pub record Weighing (f : Formula) (V : ℕ → ℕ) (i : ℕ) (t u : Table) : Ty
 -- the weights after a weighing
 abbrev pub weighedAt : Formula → Table → ℕ → ℕ
 weighedAt f t k =
-    cond (ltb (300 * f .clauses) (sumTo (f .clauses) (gained t)))
-    (3 * gained t k / 10 + shareOf (f .variables) (f .clauses) (sumTo (f .clauses) (gained t)))
+    cond (heavy (f .clauses) (sumTo (f .clauses) (gained t)))
+    (eased (shareOf (f .variables) (f .clauses) (sumTo (f .clauses) (gained t))) (gained t k))
     (gained t k)
 
 pub record Weighed (f : Formula) (t u : Table) : Type 0 where

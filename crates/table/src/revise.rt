@@ -157,8 +157,8 @@ impl Table {
         requires { ⌜ Made (now f) ⌝ ∗ ⌜ Occurs (now f) (now o) ⌝ ∗ ⌜ x < now f .variables ⌝ ∗ ⌜ now self .tick < 1000000 ⌝ ∗ ⌜ Sound (now f) (now self) ⌝ }
         ensures { λ _. ⌜ Flipped (now (f .entry)) x (now (self .entry)) (now (self .exit)) ⌝ }
     {
-        let span = o.spans[x];
-        for i in &o.clauses[span.start as usize..span.end as usize] {
+        let occurring = o.clauses_of(x);
+        for i in occurring {
             self.revise(f, *i as usize, x);
         }
         self.turn_row(x);

@@ -4,8 +4,8 @@ ghost use Prim.Native.Nat.{_+_, _*_, _/_, _^_, _<_, _≤_};
 ghost use lib.Dec.{ltb};
 ghost use Rattle.formula.specs.Clauses.{sumTo};
 ghost use Rattle.formula.specs.Formulas.{Made};
-ghost use Rattle.table.specs.Weights.{shareOf};
-ghost use Rattle.table.specs.Rows.{weightAt, reweighted, gained, eased};
+ghost use Rattle.table.specs.Weights.{heavy, shareOf, eased};
+ghost use Rattle.table.specs.Rows.{weightAt, reweighted, gained, easedAt};
 ghost use Rattle.table.specs.Sound.{Sound, Reweighed, Weighing, Weighed};
 use crate::table::ClauseRow;
 use crate::table::Table;
@@ -28,7 +28,7 @@ impl ClauseRow {
     // The weight of the clause after smoothing, where each clause gets `share` alike.
     fn smoothed(self, share: u32) -> u32
         requires { ⌜ self .weight < 2 ^ 31 ⌝ ∗ ⌜ share < 2 ^ 31 ⌝ }
-        ensures { λ r. ⌜ r ≡ 3 * self .weight / 10 + share ⌝ }
+        ensures { λ r. ⌜ r ≡ eased share (self .weight) ⌝ }
     {
         (3 * self.weight as u64 / 10) as u32 + share
     }
@@ -77,7 +77,7 @@ impl Table {
     // Smooths every weight.
     fn smooth(&mut self, f: &Formula, share: u32)
         requires { ⌜ Made (now f) ⌝ ∗ ⌜ Sound (now f) (now self) ⌝ ∗ ⌜ sumTo (now f .clauses) (weightAt (now self)) < 2 ^ 31 ⌝ ∗ ⌜ now f .clauses * share < 2 ^ 31 ⌝ ∗ ⌜ share < 2 ^ 31 ⌝ }
-        ensures { λ _. ⌜ Weighing (now (f .entry)) (eased (now (self .entry)) share) (now (f .entry) .clauses) (now (self .entry)) (now (self .exit)) ⌝ }
+        ensures { λ _. ⌜ Weighing (now (f .entry)) (easedAt (now (self .entry)) share) (now (f .entry) .clauses) (now (self .entry)) (now (self .exit)) ⌝ }
     {
         for i in 0..f.clauses as usize {
             let weight = self.clauses[i].smoothed(share);
@@ -86,7 +86,7 @@ impl Table {
     }
     // Whether the weights are more than 300 on average.
     fn is_heavy(&self, f: &Formula) -> bool
-        ensures { λ r. ⌜ r ≡ ltb (300 * now (f .entry) .clauses) (now (self .entry) .total) ⌝ }
+        ensures { λ r. ⌜ r ≡ heavy (now (f .entry) .clauses) (now (self .entry) .total) ⌝ }
     {
         self.total > 300 * f.clauses as u64
     }

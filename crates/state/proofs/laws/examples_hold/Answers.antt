@@ -10,6 +10,7 @@ returns c =
       scores-B = (refl, refl);
       changed-B = (refl, refl);
       cost-B = refl;
+      both-signs = (refl, refl, refl);
       smoothed-3 = refl;
       kept-3 = refl;
       smoothed-16 = refl;

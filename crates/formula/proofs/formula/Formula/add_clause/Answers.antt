@@ -1,10 +1,7 @@
 use mathlib.Core.Path.{_≡_, refl, sym, ap, _∙_, subst}
-use mathlib.Core.Bool.{_||_, true}
 use Prim.Native.Nat.{_+_}
 use native.Mathlib.Omega.{arith}
-use Rattle.formula.specs.declared.entry.Entry.{Entry}
-use Rattle.formula.specs.Entries.{entriesTo, entryOf}
-use Rattle.formula.specs.Formulas.{keptIn}
+use Rattle.formula.specs.Entries.{entriesTo}
 use Rattle.formula.proofs.Adding.{Adding, adding-start, adding-room, adding-more, added}
 use Rattle.formula.proofs.formula.Formula.add_clause.Needs as need
 
@@ -12,13 +9,11 @@ pub loop-v-holds : need.loop-v-holds
 loop-v-holds c = adding-start (c .args .self .now) (c .pre .0)
 
 pub keep-requires : need.keep-requires
-keep-requires c κs q =
-    adding-room (c .args .clause .now) (c .loop-v .v) (c .args .self .now) (c .loop-v .self) (c .pre .1 .1) (c .loop-v .inv)
-    (subst (λ (e : Entry). (e .plain || e .negated) ≡ true) (c .entry-of .ensures) q)
+keep-requires c κs q = adding-room (c .args .clause .now) (c .loop-v .v) (c .args .self .now) (c .loop-v .self) (c .pre .1 .1) (c .loop-v .inv) q
 
 pub loop-v-again : need.loop-v-again
 loop-v-again c =
-    subst (Adding (entriesTo (c .args .clause .now) (c .loop-v .v + 1)) (c .args .self .now)) (sym (c .keep .ensures ∙ ap (keptIn (c .loop-v .self)) (c .entry-of .ensures)))
+    subst (Adding (entriesTo (c .args .clause .now) (c .loop-v .v + 1)) (c .args .self .now)) (sym (c .keep .ensures))
     (adding-more (c .args .clause .now) (c .loop-v .v) (c .args .self .now) (c .loop-v .self) (c .pre .1 .1) (c .loop-v .inv))
 
 pub returns : need.returns
