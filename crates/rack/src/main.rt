@@ -5,6 +5,7 @@ ghost use Rattle.std.specs.Vec.{made};
 mod pick;
 
 use crate::pick::answer;
+use cnf::tally::MOST_VARIABLES;
 use dimacs::head::MOST_BYTES;
 use engine::answers::Move;
 use std::io;
@@ -21,13 +22,16 @@ fn read_input(input: &mut impl Read, room: &mut [u8]) -> io::Result<usize>
 {
     let mut filled = 0;
     for _ in 0..room.len() {
+        if filled >= room.len() {
+            break;
+        }
         let got = input.read(&mut room[filled..])?;
         if got == 0 {
             break;
         }
-        filled += got;
+        filled = filled.saturating_add(got).min(room.len());
     }
-    Ok(filled)
+    Ok(filled.min(room.len()))
 }
 
 fn main(rt: LibcRuntime) -> io::Result<()> {
@@ -35,8 +39,9 @@ fn main(rt: LibcRuntime) -> io::Result<()> {
     let mut text = vec![in heap; 0u8; MOST_BYTES + 1]?;
     let mut words = vec![in heap; 0i32; WORDS]?;
     let mut trail = vec![in heap; Move { mode: 0, variable: 0, score: 0, cost: 0 }; pick::BUDGET]?;
+    let mut values = vec![in heap; 0u8; MOST_VARIABLES]?;
     let mut out = vec![in heap; 0u8; SHEET]?;
     let length = read_input(&mut rt.stdin(), &mut text)?;
-    let written = answer(&text[0..length], &mut words, &mut trail, &mut out);
+    let written = answer(&text[0..length], &mut words, &mut trail, &mut values, &mut out);
     rt.stdout().write_all(&out[0..written])
 }

@@ -38,30 +38,34 @@ fn read_values(engine: &Engine, values: &mut [u8]) -> Result<(), Refusal> {
     Ok(())
 }
 
-// Loads the table with every variable at 0, runs, and prints the sheet.
-fn search(problem: Problem, words: &[i32], trail: &mut [Move], out: &mut [u8]) -> Result<usize, Refusal> {
+// Loads the table with every variable at 0, runs, and prints the sheet. There is a value lent for each variable.
+fn search(variables: usize, words: &[i32], trail: &mut [Move], values: &mut [u8], out: &mut [u8]) -> Result<usize, Refusal> {
     let start = [0u8; 256];
-    let mut values = [0u8; 256];
-    let variables = problem.variables.min(256);
-    let count = problem.words.min(words.len());
     let calls = [
-        Call::Load { variables, words: Part { from: 0, to: count }, start: Part { from: 0, to: variables } },
+        Call::Load { variables, words: Part { from: 0, to: words.len() }, start: Part { from: 0, to: variables } },
         Call::Run { policy: 0, source: 0, budget: BUDGET },
     ];
     let mut sources = [Generator::new(SEED)?];
     let mut answers = [Ok(Answer::Done), Ok(Answer::Done)];
     let engine = replay(&calls, words, &start, &[Cca], &mut sources, trail, &mut answers);
     let (steps, dives) = counts(answers[1])?;
-    read_values(&engine, &mut values[0..variables])?;
-    print(steps, dives, variables, &words[0..count], &values[0..variables], out)
+    read_values(&engine, values)?;
+    print(steps, dives, variables, words, values, out)
+}
+
+// The sheet of a table that was read.
+fn print_found(problem: Problem, words: &[i32], trail: &mut [Move], values: &mut [u8], out: &mut [u8]) -> Result<usize, Refusal> {
+    let count = problem.words.min(words.len());
+    let variables = problem.variables.min(values.len());
+    search(variables, &words[0..count], trail, &mut values[0..variables], out)
 }
 
 // Writes the sheet, or the line of the first refusal, and gives the number of bytes.
-pub fn answer(text: &[u8], words: &mut [i32], trail: &mut [Move], out: &mut [u8]) -> usize
+pub fn answer(text: &[u8], words: &mut [i32], trail: &mut [Move], values: &mut [u8], out: &mut [u8]) -> usize
     ensures { λ r. ⌜ r ≤ length (now (out .entry)) ⌝ }
 {
     let printed = match read(text, words) {
-        Ok(problem) => search(problem, words, trail, out),
+        Ok(problem) => print_found(problem, words, trail, values, out),
         Err(fault) => Err(fault.into()),
     };
     let written = match printed {
