@@ -40,7 +40,7 @@ struct Size {
 }
 
 // Every third table is small, every tenth is at its limits.
-fn size(dice: &mut Dice, n: u32) -> Size {
+fn draw_size(dice: &mut Dice, n: u32) -> Size {
     if n % 10 == 9 {
         return Size { variables: 256, clauses: 1_024, literals: 4_096 };
     }
@@ -107,22 +107,49 @@ fn refuses(rt: &LibcRuntime, room: usize, variables: usize, words: &[i32]) -> Re
     Ok(refused && all_sevens(&out))
 }
 
+// The table with the longest text.
+fn widest(rt: &LibcRuntime) -> Result<Vec<i32>, AllocError> {
+    let mut words = Vec::new(rt.alloc());
+    for _ in 0..1_024 {
+        words.extend_from_slice(&[-256, -256, -256, -256, 0])?;
+    }
+    Ok(words)
+}
+
+// The tables that came back the same, those that were refused for one byte less, and the bytes of the longest text.
+#[derive(Drop)]
+struct Counts {
+    same: u32,
+    refused: u32,
+    longest: usize,
+}
+
+impl Counts {
+    // Writes a table and reads it back.
+    fn take(&mut self, rt: &LibcRuntime, variables: usize, clauses: usize, words: &[i32]) -> Result<(), AllocError> {
+        let Some(text) = text_of(rt, variables, words)? else {
+            return Ok(());
+        };
+        self.longest = self.longest.max(text.len());
+        if reads_to(rt, &text, variables, clauses, words)? {
+            self.same = self.same.saturating_add(1);
+        }
+        if refuses(rt, text.len().saturating_sub(1), variables, words)? {
+            self.refused = self.refused.saturating_add(1);
+        }
+        Ok(())
+    }
+}
+
 fn main(rt: LibcRuntime) -> io::Result<()> {
     let mut dice = Dice { state: 1 };
-    let (mut same, mut refused, mut longest) = (0u32, 0u32, 0usize);
+    let mut counts = Counts { same: 0, refused: 0, longest: 0 };
     for n in 0..TABLES {
-        let size = size(&mut dice, n);
+        let size = draw_size(&mut dice, n);
         let words = table(&rt, &mut dice, size)?;
-        let (variables, clauses) = (size.variables as usize, size.clauses as usize);
-        if let Some(text) = text_of(&rt, variables, &words)? {
-            longest = longest.max(text.len());
-            if reads_to(&rt, &text, variables, clauses, &words)? {
-                same = same.saturating_add(1);
-            }
-            if refuses(&rt, text.len().saturating_sub(1), variables, &words)? {
-                refused = refused.saturating_add(1);
-            }
-        }
+        counts.take(&rt, size.variables as usize, size.clauses as usize, &words)?;
     }
-    println!(rt, "{TABLES} tables: {same} came back the same, {refused} were refused for one byte less; the longest text has {longest} bytes")
+    counts.take(&rt, 256, 1_024, &widest(&rt)?)?;
+    let Counts { same, refused, longest } = counts;
+    println!(rt, "{TABLES} tables and the widest: {same} came back the same, {refused} were refused for one byte less; the longest text has {longest} bytes")
 }
