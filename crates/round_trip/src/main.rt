@@ -21,13 +21,21 @@ impl Dice {
     // A number below 32,768 and below the one given, or 0 where that is 0.
     fn below(&mut self, most: u32) -> u32 {
         self.state = ((self.state as u64 * 1_103_515_245 + 12_345) % 2_147_483_648) as u32;
-        if most == 0 { 0 } else { self.state / 65_536 % most }
+        if most == 0 {
+            0
+        } else {
+            self.state / 65_536 % most
+        }
     }
 
     // A literal of one of so many variables.
     fn literal(&mut self, variables: u32) -> i32 {
         let variable = (1 + self.below(variables) % 256) as i32;
-        if self.below(2) == 0 { variable } else { -variable }
+        if self.below(2) == 0 {
+            variable
+        } else {
+            -variable
+        }
     }
 }
 
@@ -42,12 +50,20 @@ struct Size {
 // Every third table is small, every tenth is at its limits.
 fn draw_size(dice: &mut Dice, n: u32) -> Size {
     if n % 10 == 9 {
-        return Size { variables: 256, clauses: 1_024, literals: 4_096 };
+        return Size {
+            variables: 256,
+            clauses: 1_024,
+            literals: 4_096,
+        };
     }
     let most = if n % 3 == 0 { 4 } else { 1_024 };
     let clauses = 1 + dice.below(most) % 1_024;
     let literals = clauses + dice.below(4_097 - clauses) % 3_072;
-    Size { variables: 1 + dice.below(if n % 3 == 0 { 3 } else { 256 }) % 256, clauses, literals }
+    Size {
+        variables: 1 + dice.below(if n % 3 == 0 { 3 } else { 256 }) % 256,
+        clauses,
+        literals,
+    }
 }
 
 // A table of a size: each clause takes a few literals, and the last one what is left.
@@ -56,7 +72,11 @@ fn table(rt: &LibcRuntime, dice: &mut Dice, size: Size) -> Result<Vec<i32>, Allo
     let mut left = size.literals;
     for i in 0..size.clauses {
         let spare = left.saturating_sub(size.clauses - i);
-        let more = if size.clauses - i == 1 { spare } else { dice.below(8).min(spare) };
+        let more = if size.clauses - i == 1 {
+            spare
+        } else {
+            dice.below(8).min(spare)
+        };
         for _ in 0..more {
             words.push(dice.literal(size.variables))?;
         }
@@ -68,7 +88,11 @@ fn table(rt: &LibcRuntime, dice: &mut Dice, size: Size) -> Result<Vec<i32>, Allo
 }
 
 // The text of a table, if it is accepted.
-fn text_of(rt: &LibcRuntime, variables: usize, words: &[i32]) -> Result<Option<Vec<u8>>, AllocError> {
+fn text_of(
+    rt: &LibcRuntime,
+    variables: usize,
+    words: &[i32],
+) -> Result<Option<Vec<u8>>, AllocError> {
     let mut text = vec![in rt.alloc(); 0u8; LONGEST]?;
     match write(variables, words, &mut text) {
         Ok(n) => {
@@ -80,10 +104,21 @@ fn text_of(rt: &LibcRuntime, variables: usize, words: &[i32]) -> Result<Option<V
 }
 
 // Whether a text reads to the table, and no word more is written.
-fn reads_to(rt: &LibcRuntime, text: &[u8], variables: usize, clauses: usize, words: &[i32]) -> Result<bool, AllocError> {
+fn reads_to(
+    rt: &LibcRuntime,
+    text: &[u8],
+    variables: usize,
+    clauses: usize,
+    words: &[i32],
+) -> Result<bool, AllocError> {
     let mut back = vec![in rt.alloc(); 0i32; words.len()]?;
     match read(text, &mut back) {
-        Ok(p) => Ok(p.variables == variables && p.clauses == clauses && p.words == words.len() && back.as_slice() == words),
+        Ok(p) => Ok(
+            p.variables == variables
+                && p.clauses == clauses
+                && p.words == words.len()
+                && back.as_slice() == words,
+        ),
         Err(_) => Ok(false),
     }
 }
@@ -98,7 +133,12 @@ fn all_sevens(bytes: &[u8]) -> bool {
 }
 
 // Whether so few bytes are refused as too few, and left unaltered.
-fn refuses(rt: &LibcRuntime, room: usize, variables: usize, words: &[i32]) -> Result<bool, AllocError> {
+fn refuses(
+    rt: &LibcRuntime,
+    room: usize,
+    variables: usize,
+    words: &[i32],
+) -> Result<bool, AllocError> {
     let mut out = vec![in rt.alloc(); 7u8; room]?;
     let refused = match write(variables, words, &mut out) {
         Ok(_) => false,
@@ -126,7 +166,13 @@ struct Counts {
 
 impl Counts {
     // Writes a table and reads it back.
-    fn take(&mut self, rt: &LibcRuntime, variables: usize, clauses: usize, words: &[i32]) -> Result<(), AllocError> {
+    fn take(
+        &mut self,
+        rt: &LibcRuntime,
+        variables: usize,
+        clauses: usize,
+        words: &[i32],
+    ) -> Result<(), AllocError> {
         let Some(text) = text_of(rt, variables, words)? else {
             return Ok(());
         };
@@ -143,13 +189,24 @@ impl Counts {
 
 fn main(rt: LibcRuntime) -> io::Result<()> {
     let mut dice = Dice { state: 1 };
-    let mut counts = Counts { same: 0, refused: 0, longest: 0 };
+    let mut counts = Counts {
+        same: 0,
+        refused: 0,
+        longest: 0,
+    };
     for n in 0..TABLES {
         let size = draw_size(&mut dice, n);
         let words = table(&rt, &mut dice, size)?;
         counts.take(&rt, size.variables as usize, size.clauses as usize, &words)?;
     }
     counts.take(&rt, 256, 1_024, &widest(&rt)?)?;
-    let Counts { same, refused, longest } = counts;
-    println!(rt, "{TABLES} tables and the widest: {same} came back the same, {refused} were refused for one byte less; the longest text has {longest} bytes")
+    let Counts {
+        same,
+        refused,
+        longest,
+    } = counts;
+    println!(
+        rt,
+        "{TABLES} tables and the widest: {same} came back the same, {refused} were refused for one byte less; the longest text has {longest} bytes"
+    )
 }
