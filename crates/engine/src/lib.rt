@@ -8,4 +8,4 @@ mod picks;
 pub mod questions;
 pub mod replay;
 mod runs;
-pub mod steps;
+mod steps;

@@ -28,7 +28,7 @@ fn flip_by(search: &mut Search, mode: u8, x: usize) -> Move
 }
 
 // The place in a list of so many clauses that a drawn number gives.
-pub fn place_of(number: u32, count: usize) -> usize
+fn place_of(number: u32, count: usize) -> usize
     requires { ⌜ 0 < count ⌝ }
     ensures is { λ r. ⌜ r ≡ placeOf number count ⌝ }
     ensures below { λ r. ⌜ r < count ⌝ }
