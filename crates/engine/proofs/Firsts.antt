@@ -119,10 +119,23 @@ module _ (m : Model) where
           q)
       p
 
+  the-top : (i : ℕ) → Best (RanksBefore m) (names (clauseOf m i)) (m .variables) (divePick m i)
+  the-top i = best-is (outranks m) (RanksBefore m) (λ x y l h. ranks-yes x y h) ranks-no ranks-trans (names (clauseOf m i)) (m .variables)
+
+  top-none : (i : ℕ) → divePick m i ≡ None → (x : ℕ) → x < m .variables → names (clauseOf m i) x ≡ false
+  top-none i e = subst (Best (RanksBefore m) (names (clauseOf m i)) (m .variables)) e (the-top i)
+
+  top-some : (i x : ℕ) → divePick m i ≡ Some x → Topmost m i x
+  top-some i x e = let b = subst (Best (RanksBefore m) (names (clauseOf m i)) (m .variables)) e (the-top i) in record { below = b .below; named = b .passes; first = b .first }
+
+  top-by : (i : ℕ) (o : Option ℕ) (x : ℕ) → divePick m i ≡ o → Topmost m i x → o ≡ Some x
+  top-by i None x e p = absurd (both-ways (names (clauseOf m i) x) (top-none i e x (p .below)) (p .named))
+  top-by i (Some y) x e p =
+      let q = top-some i y e in
+      ⊎-elim (λ s. ap Some s) (λ s. absurd (ranks-apart x y (p .first y (q .below) (q .named) s) (q .first x (p .below) (p .named) (λ t. s (sym t))))) (cases-eq y x)
+
   pub dives-to-the-top : (i : ℕ) → DivesToTheTop m i
-  dives-to-the-top i x e =
-      let f = subst (Best (RanksBefore m) (names (clauseOf m i)) (m .variables)) e (best-is (outranks m) (RanksBefore m) (λ x y l h. ranks-yes x y h) ranks-no ranks-trans (names (clauseOf m i)) (m .variables)) in
-      record { below = f .below; named = f .passes; first = f .first }
+  dives-to-the-top i = record { none-only = top-none i; some-only = top-some i; some-every = λ x p. top-by i (divePick m i) x refl p }
 
   module _ (f : Levels) where
     goes-yes : (x y : ℕ) → y < x → goesBefore f m x y ≡ true → GoesBefore f m x y

@@ -53,8 +53,11 @@ pub record Topmost (m : Model) (i x : ℕ) : Type 0 where
   pub named : names (clauseOf m i) x ≡ true
   pub first : (y : ℕ) → y < m .variables → names (clauseOf m i) y ≡ true → (y ≡ x → ⊥) → RanksBefore m x y
 
-abbrev pub DivesToTheTop : Model → ℕ → Type 0
-DivesToTheTop m i = (x : ℕ) → divePick m i ≡ Some x → Topmost m i x
+-- a dive's pick in a clause is its topmost variable; only a clause that names no variable has none
+pub record DivesToTheTop (m : Model) (i : ℕ) : Type 0 where
+  pub none-only : divePick m i ≡ None → (x : ℕ) → x < m .variables → names (clauseOf m i) x ≡ false
+  pub some-only : (x : ℕ) → divePick m i ≡ Some x → Topmost m i x
+  pub some-every : (x : ℕ) → Topmost m i x → divePick m i ≡ Some x
 
 -- a dive is due: it was made, or no number was ready for it
 abbrev pub Due : Stepped → Type 0
