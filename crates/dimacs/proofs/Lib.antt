@@ -10,6 +10,7 @@ pub mod Worded
 mod Comments
 mod Spelled
 pub mod Accepts
+mod FirstFaults
 mod Writing
 mod Decimals
 mod RoundTrip

@@ -5,5 +5,6 @@ pub mod Heads
 pub mod Reads
 pub mod Readers
 pub mod Grammar
+pub mod FirstFaults
 pub mod Writes
 pub mod RoundTrips

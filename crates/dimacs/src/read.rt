@@ -3,6 +3,7 @@ ghost use mathlib.Core.Path.{_≡_};
 ghost use lib.ListN.{length};
 ghost use Rattle.dimacs.specs.Reads.{readAnswer, readTable};
 ghost use Rattle.dimacs.specs.Grammar.{ReadsTheGrammar};
+ghost use Rattle.dimacs.specs.FirstFaults.{RefusesTheFirst};
 ghost use Rattle.dimacs.specs.RoundTrips.{WritesBack};
 use crate::clauses::check_clauses;
 use crate::clauses::fill;
@@ -26,6 +27,7 @@ pub fn read(text: &[u8], words: &mut [i32]) -> Result<Problem, HeadFault>
     ensures table { λ _. ⌜ now (words .exit) ≡ readTable (now (text .entry)) (now (words .entry)) ⌝ }
     ensures back { λ _. ⌜ WritesBack (now (text .entry)) (length (now (words .entry))) ⌝ }
     ensures grammar { λ _. ⌜ ReadsTheGrammar (now (text .entry)) (length (now (words .entry))) ⌝ }
+    ensures first { λ _. ⌜ RefusesTheFirst (now (text .entry)) (length (now (words .entry))) ⌝ }
 {
     let head = read_head(text)?;
     let tally = check_clauses(text, head.end, head.variables, head.clauses)?;

@@ -4,6 +4,7 @@ use native.Mathlib.Omega.{arith}
 use lib.ListN.{length}
 use Rattle.dimacs.specs.Reads.{bodyTokens}
 use Rattle.dimacs.proofs.Accepts.{reads-the-grammar}
+use Rattle.dimacs.proofs.FirstFaults.{refuses-the-first}
 use Rattle.dimacs.proofs.RoundTrip.{writes-back}
 use Rattle.dimacs.proofs.Accepted.{Counts, counts, head-within}
 use Rattle.dimacs.proofs.read.read.Needs as need
@@ -25,13 +26,13 @@ fill-requires c κs =
     (head-within (c .args .text .now) (c .in-Continue-head .head) (sym (c .in-Continue-head .ensures tt)) .0, omega (arith, k .number))
 
 pub returns-in-Break-head : need.returns-in-Break-head
-returns-in-Break-head c = record { answer = search needs; table = search needs; back = writes-back (c .args .text .now) (length (c .args .words .now)); grammar = reads-the-grammar (c .args .text .now) (length (c .args .words .now)) }
+returns-in-Break-head c = record { answer = search needs; table = search needs; back = writes-back (c .args .text .now) (length (c .args .words .now)); grammar = reads-the-grammar (c .args .text .now) (length (c .args .words .now)); first = refuses-the-first (c .args .text .now) (length (c .args .words .now)) }
 
 pub returns-in-Break-tally : need.returns-in-Break-tally
-returns-in-Break-tally c = record { answer = search needs; table = search needs; back = writes-back (c .args .text .now) (length (c .args .words .now)); grammar = reads-the-grammar (c .args .text .now) (length (c .args .words .now)) }
+returns-in-Break-tally c = record { answer = search needs; table = search needs; back = writes-back (c .args .text .now) (length (c .args .words .now)); grammar = reads-the-grammar (c .args .text .now) (length (c .args .words .now)); first = refuses-the-first (c .args .text .now) (length (c .args .words .now)) }
 
 pub returns-then-count-words : need.returns-then-count-words
-returns-then-count-words c = record { answer = search needs; table = search needs; back = writes-back (c .args .text .now) (length (c .args .words .now)); grammar = reads-the-grammar (c .args .text .now) (length (c .args .words .now)) }
+returns-then-count-words c = record { answer = search needs; table = search needs; back = writes-back (c .args .text .now) (length (c .args .words .now)); grammar = reads-the-grammar (c .args .text .now) (length (c .args .words .now)); first = refuses-the-first (c .args .text .now) (length (c .args .words .now)) }
 
 pub returns : need.returns
-returns c = record { answer = search needs; table = search needs; back = writes-back (c .args .text .now) (length (c .args .words .now)); grammar = reads-the-grammar (c .args .text .now) (length (c .args .words .now)) }
+returns c = record { answer = search needs; table = search needs; back = writes-back (c .args .text .now) (length (c .args .words .now)); grammar = reads-the-grammar (c .args .text .now) (length (c .args .words .now)); first = refuses-the-first (c .args .text .now) (length (c .args .words .now)) }
