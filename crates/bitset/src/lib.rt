@@ -1,2 +1,4 @@
 // Sets of numbers below 1,024.
+#![tactic(auto)]
+
 pub mod set;

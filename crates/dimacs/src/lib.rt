@@ -1,4 +1,6 @@
 // Rule tables as text: the DIMACS CNF form.
+#![tactic(auto)]
+
 mod clauses;
 pub mod head;
 pub mod read;

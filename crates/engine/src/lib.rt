@@ -1,4 +1,6 @@
 // The engine: every call with its refusals, and steps and runs over any policy and source.
+#![tactic(auto)]
+
 pub mod answers;
 pub mod calls;
 pub mod engine;

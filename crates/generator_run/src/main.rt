@@ -1,4 +1,6 @@
 // Prints the first three numbers from seed 1, and then the 10,000th.
+#![tactic(auto)]
+
 ghost use Rattle.std.specs.Prelude.{◌≡◌, [], ◌∷◌, Ok};
 ghost use Rattle.policy.specs.Sources.{after_draws};
 

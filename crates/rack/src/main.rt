@@ -1,4 +1,6 @@
 // Reads a rule table from standard input, looks for an assignment that satisfies it, and prints the result sheet.
+#![tactic(auto)]
+
 ghost use Rattle.std.specs.Prelude.{◌≤◌, length, IfOk};
 
 mod pick;

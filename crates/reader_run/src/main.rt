@@ -1,4 +1,6 @@
 // Runs the reader and the table check on texts and tables at their limits, and prints what they answer.
+#![tactic(auto)]
+
 use cnf::refusal::Refusal;
 use cnf::table::{check, check_table};
 use dimacs::read::read;

@@ -1,4 +1,6 @@
 // Writes tables that are drawn by chance, reads each back, and prints how many came back the same.
+#![tactic(auto)]
+
 use cnf::refusal::Check;
 use dimacs::read::read;
 use dimacs::write::write;

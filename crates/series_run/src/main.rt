@@ -1,4 +1,6 @@
 // Goes through a mixed series of calls with two policies and a recorded source, and prints what each call answered.
+#![tactic(auto)]
+
 use cnf::refusal::Refusal;
 use engine::answers::Move;
 use policy::admission::{Cca, Descent};

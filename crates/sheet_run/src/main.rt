@@ -1,4 +1,6 @@
 // Writes sheets into every buffer that is too short, then into one that has just the room, and prints what came of it.
+#![tactic(auto)]
+
 mod shortest;
 
 use cnf::refusal::{Check, Refusal};

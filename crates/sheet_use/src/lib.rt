@@ -1,4 +1,6 @@
 // A sheet written call by call, as a program outside would.
+#![tactic(auto)]
+
 ghost use Rattle.std.specs.Prelude.{◌≡◌};
 ghost use Rattle.sheet.specs.Sheets.{begun, added_all, closed, ended};
 ghost use Rattle.sheet_use.specs.Uses.{filled, torn};

@@ -11,7 +11,7 @@ clauses-preserved c =
       omega arith,
       omega arith,
       c.loop-i.invariant.0,
-      left-true c.args.words.now c.loop-i.i c.loop-i-test.true a (c.clauses.clause + 1) c.next-clause-at.result c.next-clause-at.ensures.rest c.if-words-i-eq0.false (c.if-literal-holds.ensures ∙ ap (holds a) (to_z-of_z w32 (get_or c.args.words.now c.loop-i.i (pos 0)) f)) ∙ c.loop-i.invariant.1,
+      left-true c.args.words.now c.loop-i.i c.loop-i-test.true a (c.clauses.clause + 1) c.next_clause-at.result c.next_clause-at.ensures.rest c.if-words-i-eq0.false (c.if-literal_holds.ensures ∙ ap (holds a) (to_z-of_z w32 (get_or c.args.words.now c.loop-i.i (pos 0)) f)) ∙ c.loop-i.invariant.1,
     )
 
 pub loop-i-preserved : goal.loop-i-preserved
@@ -19,7 +19,7 @@ loop-i-preserved c =
     let f : SFits w32 (get_or c.args.words.now c.loop-i.i (pos 0)) = search rules in
     let a = values_of c.args.start.now in (
       c.loop-i.invariant.0,
-      left_false c.args.words.now c.loop-i.i c.loop-i-test.true a (c.clauses.clause + 1) c.if-words-i-eq0.false (c.if-literal-holds.ensures ∙ ap (holds a) (to_z-of_z w32 (get_or c.args.words.now c.loop-i.i (pos 0)) f)) ∙ c.loop-i.invariant.1,
+      left_false c.args.words.now c.loop-i.i c.loop-i-test.true a (c.clauses.clause + 1) c.if-words-i-eq0.false (c.if-literal_holds.ensures ∙ ap (holds a) (to_z-of_z w32 (get_or c.args.words.now c.loop-i.i (pos 0)) f)) ∙ c.loop-i.invariant.1,
     )
 
 pub returns-after-clauses : goal.returns-after-clauses
