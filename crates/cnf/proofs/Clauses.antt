@@ -1,9 +1,9 @@
 -- How the first unsatisfied clause of what is left of a table steps.
-use Rattle.std.proofs.Common.{◌≡◌, ℕ, zero, suc, ◌+◌, ◌-◌, ◌<◌, ◌≤◌, Bool, true, false, cond, not, ◌&&◌, eqb, leb, ◌⊎◌, List, [], ◌∷◌, length, get_or, drop, ℤ, pos, negsuc, nat_abs, Some, None, Option, sym, refl, ap, ◌∙◌, inl, inr, ⊎_elim, arith, w32, SFits, of_z}
+use Rattle.std.proofs.Common.{◌≡◌, ℕ, zero, suc, ◌+◌, ◌-◌, ◌<◌, ◌≤◌, true, false, cond, not, eqb, ◌⊎◌, List, [], ◌∷◌, length, get_or, drop, ℤ, pos, negsuc, nat_abs, Some, None, sym, refl, ap, ◌∙◌, inl, inr, ⊎_elim, arith, w32, SFits, of_z}
 use lib.Signed.{lt_z}
 use Rattle.std.proofs.lemmas.List.{at_drop_more, at_drop_all, get_or_past}
 use Rattle.std.proofs.lemmas.Bool.{cond-true, cond-false, lt-ltb, false≢true}
-use Rattle.cnf.specs.Tables.{Assignment, values_of, holds, is_zero, onto, clauses_of, rest, satisfied, first_unsatisfied}
+use Rattle.cnf.specs.Tables.{Assignment, values_of, holds, is_zero, onto, clauses_of, rest, first_unsatisfied}
 use Rattle.cnf.proofs.Words.{zero_is, other_is}
 
 pub holds-zero : (a : Assignment) (w : ℤ) → nat_abs w ≡ 0 → false ≡ holds a w

@@ -1,5 +1,5 @@
 -- A table is accepted exactly when it is legal.
-use Rattle.std.proofs.Common.{◌≡◌, ℕ, zero, suc, ◌+◌, ◌<◌, ◌≤◌, Bool, true, false, cond, eqb, ltb, leb, ◌⊎◌, List, [], ◌∷◌, ◌++◌, length, ℤ, pos, negsuc, nat_abs, Ok, Err, Result, sym, refl, ap, ◌∙◌, subst, ⊎_elim, true≢false, arith}
+use Rattle.std.proofs.Common.{◌≡◌, ℕ, zero, suc, ◌+◌, ◌<◌, ◌≤◌, Bool, true, false, cond, eqb, ltb, leb, List, [], ◌∷◌, ◌++◌, length, ℤ, pos, negsuc, nat_abs, Ok, Err, Result, sym, refl, ap, ◌∙◌, subst, ⊎_elim, true≢false, arith}
 use Rattle.std.proofs.lemmas.Bool.{cond-true, cond-false, le-leb, lt-leb, leb-true, leb-false, ltb-false, le-ltb, and_from, and_parts, cases_Bool, ne_eqb, eqb-false}
 use Rattle.std.specs.List.{AllByRecursion as All}
 use Rattle.cnf.specs.declared.refusal.Check.{Check}
@@ -8,7 +8,7 @@ use Rattle.cnf.specs.declared.refusal.Refusal.{Refusal}
 use Rattle.cnf.specs.declared.tally.Tally.{Tally}
 use Rattle.cnf.specs.Refusals.{refused}
 use Rattle.cnf.specs.Tables.{is_zero, Literal, Clause, spelled, literals_in, Legal, onto, clauses_of}
-use Rattle.cnf.specs.Scans.{and_then, placed, no_words, with_literal, with_end, tallied_end, tallied_literal, tallied, tallied_from, closed, within, table_checked}
+use Rattle.cnf.specs.Scans.{and_then, placed, no_words, with_literal, with_end, tallied, tallied_from, closed, within, table_checked}
 use Rattle.cnf.specs.Promises.{AcceptsLegalTables}
 
 -- words that end n clauses with k literals, the first of them begun or not

@@ -1,5 +1,5 @@
 -- What the bits of a word of 32 bits say of it.
-use Rattle.std.proofs.Common.{◌≡◌, ℕ, zero, suc, true, false, ℤ, pos, negsuc, refl, ap, arith, w32, SFits, of_z}
+use Rattle.std.proofs.Common.{◌≡◌, zero, suc, true, false, ℤ, pos, negsuc, refl, ap, arith, w32, SFits, of_z}
 use Rattle.cnf.specs.Tables.{is_zero}
 
 pub zero_is : (w : ℤ) → SFits w32 w → of_z w32 w ≡ 0 → is_zero w ≡ true

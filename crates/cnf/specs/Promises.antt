@@ -1,7 +1,7 @@
 -- What the checks of a table mean, in the words of the subject.
 use Rattle.std.specs.Prelude.{◌≡◌, ℕ, suc, ◌<◌, ◌≤◌, true, false, List, [], length, ℤ, Some, None, Ok, slice_index_or}
-use Rattle.cnf.specs.Tables.{Legal, Assignment, satisfied, clauses_of, values_of, first_unsatisfied}
-use Rattle.cnf.specs.Scans.{table_checked, start_checked, judged}
+use Rattle.cnf.specs.Tables.{Legal, Assignment, satisfied, first_unsatisfied}
+use Rattle.cnf.specs.Scans.{table_checked}
 
 -- a table is accepted exactly when it is a sequence of non-empty clauses, each ended by 0, over the variables 1 to v, within the limits
 pub record AcceptsLegalTables (v : ℕ) (ws : List ℤ) : Type 0 where

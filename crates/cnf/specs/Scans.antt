@@ -1,5 +1,5 @@
 -- A table is judged word by word, and the first check that gives a no decides.
-use Rattle.std.specs.Prelude.{◌≡◌, ℕ, zero, suc, ◌+◌, Bool, true, false, cond, ◌&&◌, List, [], ◌∷◌, length, ℤ, Ok, Err, Option, Result, ◌==◌, nat_le, nat_lt, unsigned_abs}
+use Rattle.std.specs.Prelude.{ℕ, ◌+◌, Bool, true, false, cond, ◌&&◌, List, [], ◌∷◌, length, ℤ, Ok, Err, Option, Result, ◌==◌, nat_le, nat_lt, unsigned_abs}
 use Rattle.cnf.specs.declared.refusal.Check.{Check}
 use Rattle.cnf.specs.declared.refusal.Check.TheVariants.{Limits, ClauseCount, VariableRange, EmptyClause, LiteralCount, StartValues}
 use Rattle.cnf.specs.declared.refusal.Refusal.{Refusal}

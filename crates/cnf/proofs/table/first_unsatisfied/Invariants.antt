@@ -1,4 +1,4 @@
-use Rattle.std.proofs.Common.{◌≡◌, ◌+◌, ◌-◌, ◌<◌, ◌≤◌, length, drop, None}
+use Rattle.std.proofs.Common.{◌≡◌, ◌+◌, ◌-◌, ◌≤◌, length, drop, None}
 use Rattle.cnf.specs.Tables.{values_of, clauses_of, first_unsatisfied}
 use Rattle.cnf.proofs.table.first_unsatisfied.Given as goal
 
