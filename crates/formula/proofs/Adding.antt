@@ -1,11 +1,11 @@
 -- One clause more.
-use Rattle.std.proofs.Common.{◌≡◌, ℕ, zero, suc, ◌+◌, ◌-◌, ◌<◌, ◌≤◌, Bool, true, false, cond, ◌||◌, List, [], ◌∷◌, ◌++◌, length, get_or, take, drop, set, ℤ, sym, refl, ap, ◌∙◌, subst, ap₂, add-one, arith}
+use Rattle.std.proofs.Common.{◌≡◌, ℕ, suc, ◌+◌, ◌-◌, ◌<◌, ◌≤◌, Bool, true, false, cond, List, [], ◌∷◌, ◌++◌, length, get_or, take, drop, set, ℤ, sym, refl, ap, ◌∙◌, subst, add-one, arith}
 use Rattle.std.proofs.lemmas.List.{take_more_set, take_all, take-take, take_at, drop_at, drop-take, length-append, length-set, length-take-le, get_or-set_same, get_or-set_other, append_assoc, append-nil}
 use Rattle.formula.specs.declared.entry.Entry.{Entry}
 use Rattle.formula.specs.declared.formula.Span.{Span}
 use Rattle.formula.specs.declared.formula.Formula.{Formula}
 use Rattle.formula.specs.Clauses.{sum_to}
-use Rattle.formula.specs.Entries.{entry_of, kept, entries_to, named_in, Distinct, Signed}
+use Rattle.formula.specs.Entries.{entry_of, kept, entries_to, Distinct, Signed}
 use Rattle.formula.specs.Formulas.{Made, Added, kept_in, span_at, span0, entries_of}
 use Rattle.formula.proofs.Sums.{at_all, sum_to_same}
 use Rattle.formula.proofs.Normal.{hit, normal_short, normal_distinct, normal_signed}

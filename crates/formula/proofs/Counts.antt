@@ -1,13 +1,12 @@
 -- A clause's true count, and the variables that its entries name.
-use Rattle.std.proofs.Common.{◌≡◌, ℕ, zero, suc, ◌+◌, ◌-◌, ◌*◌, ◌<◌, ◌≤◌, Bool, true, false, cond, not, ◌&&◌, ◌||◌, eqb, ◌⊎◌, List, [], ◌∷◌, ◌++◌, length, get_or, take, ℤ, pos, negsuc, sym, refl, ap, ◌∙◌, subst, ap₂, inl, inr, ⊎_elim, arith}
-use Rattle.std.proofs.lemmas.Bool.{cases_eq, eq-eqb, ne_eqb, eqb-true, eqb-false, or_parts, or_from, or_cases, false≢true}
+use Rattle.std.proofs.Common.{◌≡◌, ℕ, zero, suc, ◌+◌, ◌*◌, ◌<◌, ◌≤◌, Bool, true, false, cond, not, ◌&&◌, ◌||◌, eqb, List, [], ◌∷◌, ◌++◌, length, get_or, take, ℤ, pos, negsuc, sym, refl, ap, ◌∙◌, subst, ap₂, ⊎_elim, arith}
+use Rattle.std.proofs.lemmas.Bool.{eq-eqb, ne_eqb, eqb-true, eqb-false, or_parts, or_from, or_cases, false≢true}
 use Rattle.std.proofs.lemmas.List.{take_more}
 use Rattle.std.proofs.lemmas.Bool.Decides.{nat_tests}
 use Rattle.cnf.specs.Tables.{satisfied}
 use Rattle.formula.specs.declared.entry.Entry.{Entry}
-use Rattle.formula.specs.Clauses.{flip_at, sum_to}
+use Rattle.formula.specs.Clauses.{flip_at}
 use Rattle.formula.specs.Entries.{bit, trues, count, literals, sign_onto, named_in, Distinct, Signed, entry0}
-use Rattle.formula.proofs.Sums.{bit_le, sum_to_one, sum_to_add, sum_to_le, sum_to_const}
 
 sat_step : (p n u s : Bool) (c : ℕ) → s ≡ not (eqb c 0) → (cond p u false || (cond n (not u) false || s)) ≡ not (eqb ((bit (p && u) + bit (n && not u)) + c) 0)
 sat_step true true true s c e = grind (arith, nat_tests)

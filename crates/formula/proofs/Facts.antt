@@ -9,10 +9,9 @@ use Rattle.cnf.specs.Tables.{Literal, Clause}
 use Rattle.formula.specs.declared.entry.Entry.{Entry}
 use Rattle.formula.specs.declared.formula.Formula.{Formula}
 use Rattle.formula.specs.declared.occurrences.Occurrences.{Occurrences}
-use Rattle.formula.specs.Clauses.{sum_to}
-use Rattle.formula.specs.Entries.{named_in, Distinct, Signed, entries_to}
+use Rattle.formula.specs.Entries.{Distinct, Signed, entries_to}
 use Rattle.formula.specs.Formulas.{Sized, Made, Holds, span_at, entries_of}
-use Rattle.formula.specs.Occurrences.{Rows, OccursTo, Occurs, passing, names_at, places_of, occurring_in}
+use Rattle.formula.specs.Occurrences.{Rows, OccursTo, passing, names_at, places_of, occurring_in}
 
 abbrev parts : Entry → ℕ × (Bool × Bool)
 parts e = (e.variable, (e.plain, e.negated))
@@ -27,18 +26,18 @@ sized_prop f p q =
 
 pub signed_prop : (v : ℕ) (es : List Entry) → IsProp (Signed v es)
 signed_prop v [] = hlevel props
-signed_prop v (e ∷ es) = let h = signed_prop v es in search (props, h)
+signed_prop v (e ∷ es) = let h = signed_prop v es in hlevel (props, h)
 
 pub distinct_prop : (es : List Entry) → IsProp (Distinct es)
 distinct_prop [] = hlevel props
-distinct_prop (e ∷ es) = let h = distinct_prop es in search (props, h)
+distinct_prop (e ∷ es) = let h = distinct_prop es in hlevel (props, h)
 
 pub all_prop : {X : Type 0} (P : X → Type 0) → ((x : X) → IsProp (P x)) → (xs : List X) → IsProp (All P xs)
 all_prop P h [] = hlevel props
-all_prop P h (x ∷ xs) = let k = all_prop P h xs in let j = h x in search (props, j, k)
+all_prop P h (x ∷ xs) = let k = all_prop P h xs in let j = h x in hlevel (props, j, k)
 
 pub clause_prop : (v : ℕ) (c : List ℤ) → IsProp (Clause v c)
-clause_prop v c = let h = all_prop (Literal v) (λ w. hlevel props) c in search (props, h)
+clause_prop v c = let h = all_prop (Literal v) (λ w. hlevel props) c in hlevel (props, h)
 
 pub made_prop : (f : Formula) → IsProp (Made f)
 made_prop f p q =
@@ -58,7 +57,7 @@ made_prop f p q =
 pub holds_prop : (v : ℕ) (cs : List (List ℤ)) (f : Formula) → IsProp (Holds v cs f)
 holds_prop v cs f p q =
     let h : (m n : ℕ) → IsProp (m ≡ n) = hlevel props in
-    let k : (xs ys : List Entry) → IsProp (xs ≡ ys) = search (props, entry_coded) in
+    let k : (xs ys : List Entry) → IsProp (xs ≡ ys) = hlevel (props, entry_coded) in
     λ i.
     record {
       made = made_prop f p.made q.made i;

@@ -1,6 +1,6 @@
 -- The lists of the clauses that name each variable.
-use Rattle.std.proofs.Common.{◌≡◌, ℕ, zero, suc, ◌+◌, ◌-◌, ◌<◌, ◌≤◌, Bool, true, false, cond, ◌||◌, eqb, ◌⊎◌, List, [], ◌∷◌, ◌++◌, length, get_or, take, drop, set, sym, refl, ap, ◌∙◌, subst, ap₂, inl, inr, ⊎_elim, mul-zero, add-one, arith}
-use Rattle.std.proofs.lemmas.Bool.{cases_eq, ne_eqb, cases_lt}
+use Rattle.std.proofs.Common.{◌≡◌, ℕ, zero, suc, ◌+◌, ◌-◌, ◌<◌, ◌≤◌, Bool, true, false, cond, ◌||◌, eqb, List, [], ◌∷◌, ◌++◌, length, get_or, take, drop, set, sym, refl, ap, ◌∙◌, subst, ap₂, ⊎_elim, mul-zero, add-one, arith}
+use Rattle.std.proofs.lemmas.Bool.{cases_eq, ne_eqb}
 use Rattle.std.proofs.lemmas.List.{take_more_set, take_all, take-take, take_at, drop_at, length-append, length-set, length-take-le, get_or-set_same, get_or-set_other, append_assoc, append-nil}
 use Rattle.formula.specs.declared.entry.Entry.{Entry}
 use Rattle.formula.specs.declared.formula.Span.{Span}
@@ -9,7 +9,7 @@ use Rattle.formula.specs.declared.occurrences.Occurrences.{Occurrences}
 use Rattle.formula.specs.Clauses.{sum_to}
 use Rattle.formula.specs.Entries.{bit, named_in}
 use Rattle.formula.specs.Formulas.{Made, span0, part_of, entries_of}
-use Rattle.formula.specs.Occurrences.{Rows, OccursTo, Occurs, passing, names_at, places_of, occurring_in, listed_in}
+use Rattle.formula.specs.Occurrences.{Rows, OccursTo, passing, names_at, places_of, occurring_in, listed_in}
 use Rattle.formula.proofs.Sums.{at_all, bit_le, sum_to_same, sum_to_le, sum_to_one, sum_to_add, sum_to_const, sum_to_swap}
 use Rattle.formula.proofs.Adding.{part_of_lem}
 

@@ -1,9 +1,9 @@
 -- Splitting the words of a table into its clauses.
-use Rattle.std.proofs.Common.{◌≡◌, ℕ, zero, suc, ◌+◌, ◌-◌, ◌<◌, ◌≤◌, Bool, true, false, cond, ◌⊎◌, List, [], ◌∷◌, ◌++◌, length, get_or, take, drop, ℤ, pos, negsuc, nat_abs, sym, refl, ap, ◌∙◌, subst, ap₂, inl, inr, ⊎_elim, arith}
+use Rattle.std.proofs.Common.{◌≡◌, ℕ, zero, suc, ◌+◌, ◌-◌, ◌<◌, ◌≤◌, true, false, cond, List, [], ◌∷◌, ◌++◌, length, get_or, take, drop, ℤ, pos, negsuc, sym, refl, ap, ◌∙◌, subst, ap₂, ⊎_elim, arith}
 use Rattle.std.specs.List.{AllByRecursion as All}
-use Rattle.std.proofs.lemmas.Bool.{cases_lt, cases_eq, cases_order, false≢true}
-use Rattle.std.proofs.lemmas.List.{drop_more, drop_all, drop_at, drop-drop, take_at, length-drop, length-append, get_or-drop, get_or_append_left, get_or_at, append_assoc, nil_from_length}
-use Rattle.std.proofs.ByRecursion.{All-get_or, All-drop}
+use Rattle.std.proofs.lemmas.Bool.{cases_lt, cases_order, false≢true}
+use Rattle.std.proofs.lemmas.List.{drop_more, drop_all, drop_at, drop-drop, take_at, length-drop, length-append, get_or-drop, get_or_append_left, get_or_at, append_assoc}
+use Rattle.std.proofs.ByRecursion.{All-get_or}
 use Rattle.cnf.specs.Tables.{is_zero, Literal, Clause, spelled, literals_in, Legal, onto, clauses_of}
 use Rattle.formula.specs.declared.formula.Formula.{Formula}
 use Rattle.formula.specs.Clauses.{sum_to}

@@ -1,5 +1,5 @@
 -- The entries of a clause mean what its words mean.
-use Rattle.std.proofs.Common.{◌≡◌, ℕ, zero, suc, pred, ◌+◌, ◌<◌, ◌≤◌, Bool, true, false, cond, not, ◌&&◌, ◌||◌, eqb, ◌⊎◌, List, [], ◌∷◌, ◌++◌, map, ℤ, pos, negsuc, sym, refl, ap, ◌∙◌, subst, ap₂, inl, inr, ⊎_elim, arith}
+use Rattle.std.proofs.Common.{◌≡◌, ℕ, zero, suc, ◌<◌, ◌≤◌, Bool, true, false, cond, not, ◌&&◌, ◌||◌, eqb, List, [], ◌∷◌, ◌++◌, map, ℤ, pos, negsuc, sym, refl, ap, ◌∙◌, ap₂, ⊎_elim, arith}
 use Rattle.std.specs.List.{AllByRecursion as All}
 use Rattle.std.proofs.lemmas.Bool.{cases_eq, cases_lt, eq-eqb, ne_eqb, or_from, false≢true}
 use Rattle.std.proofs.lemmas.List.{map-append}
@@ -7,9 +7,9 @@ use Rattle.std.proofs.lemmas.Bool.Decides.{nat_tests}
 use Rattle.cnf.specs.Tables.{Literal, holds, satisfied}
 use Rattle.formula.specs.declared.entry.Entry.{Entry}
 use Rattle.formula.specs.Clauses.{any_to, variable_of, names}
-use Rattle.formula.specs.Entries.{sign_onto, literals, any_of, is_plain, is_negated, entry_of, kept, entries_to, named_in}
+use Rattle.formula.specs.Entries.{literals, any_of, is_plain, is_negated, entry_of, kept, entries_to, named_in}
 use Rattle.formula.specs.Occurrences.{passing}
-use Rattle.formula.specs.Meaning.{Same, SameMeaning}
+use Rattle.formula.specs.Meaning.{SameMeaning}
 use Rattle.formula.proofs.Sums.{or_none, any_to_same, any_to_none, any_to_gain}
 use Rattle.formula.proofs.Counts.{sat_onto, satisfied-count, named_append}
 use Rattle.formula.proofs.Normal.{hit, word, normal_below}

@@ -1,5 +1,5 @@
 -- What clauses say of variables. A variable goes by its place: variable k has the place k − 1.
-use Rattle.std.specs.Prelude.{ℕ, zero, suc, pred, ◌+◌, Bool, true, false, cond, not, ◌||◌, List, [], ◌∷◌, ℤ, pos, negsuc, ◌==◌}
+use Rattle.std.specs.Prelude.{ℕ, zero, suc, pred, ◌+◌, Bool, false, cond, not, ◌||◌, List, [], ◌∷◌, ℤ, pos, negsuc, ◌==◌}
 use Rattle.cnf.specs.Tables.{Assignment}
 
 abbrev pub variable_of : ℤ → ℕ

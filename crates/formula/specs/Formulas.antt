@@ -1,13 +1,13 @@
 -- What a formula's arrays hold.
-use Rattle.std.specs.Prelude.{◌≡◌, ℕ, ◌+◌, ◌-◌, ◌<◌, ◌≤◌, Bool, true, false, cond, ◌||◌, List, [], ◌∷◌, length, take, drop, ℤ, pos, slice_index_or, slice_set}
+use Rattle.std.specs.Prelude.{◌≡◌, ℕ, ◌+◌, ◌-◌, ◌<◌, ◌≤◌, true, false, cond, ◌||◌, List, [], length, take, drop, ℤ, pos, slice_index_or, slice_set}
 use Rattle.std.specs.List.{AllByRecursion as All}
-use Rattle.cnf.specs.Tables.{Clause, clauses_of, is_zero}
+use Rattle.cnf.specs.Tables.{Clause, is_zero}
 use Rattle.formula.specs.declared.entry.Entry.{Entry}
 use Rattle.formula.specs.declared.formula.Span.{Span}
 use Rattle.formula.specs.declared.formula.Formula.{Formula}
 use Rattle.formula.specs.declared.given.Given.{Given}
 use Rattle.formula.specs.Clauses.{sum_to}
-use Rattle.formula.specs.Entries.{named_in, Distinct, Signed, entries_to}
+use Rattle.formula.specs.Entries.{Distinct, Signed, entries_to}
 
 abbrev pub span0 : Span
 span0 = record { start = 0; end = 0 }

@@ -1,4 +1,4 @@
-use Rattle.std.proofs.Common.{◌≡◌, get_or, pos, sym, refl, ap, ◌∙◌, w32, SFits, rules}
+use Rattle.std.proofs.Common.{get_or, pos, ap, ◌∙◌, w32, SFits, rules}
 use Rattle.std.proofs.lemmas.Int.{to_z-of_z}
 use Rattle.std.proofs.lemmas.List.{take_all}
 use Rattle.formula.specs.Entries.{entry_of, with_word}

@@ -1,7 +1,7 @@
-use Rattle.std.proofs.Common.{◌≡◌, true, take, sym, refl, ap, ◌∙◌, arith}
+use Rattle.std.proofs.Common.{sym, ap, ◌∙◌}
 use Rattle.std.proofs.lemmas.Bool.{ne_eqb, or_from}
 use Rattle.std.proofs.lemmas.List.{take_all}
-use Rattle.formula.specs.Entries.{named_in, entry0}
+use Rattle.formula.specs.Entries.{named_in}
 use Rattle.formula.proofs.Counts.{named_more, named_at}
 use Rattle.formula.proofs.entry.names.Goals as goal
 

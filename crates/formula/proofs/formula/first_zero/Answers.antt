@@ -1,4 +1,4 @@
-use Rattle.std.proofs.Common.{◌≡◌, ℕ, zero, suc, ◌<◌, Bool, true, false, get_or, ℤ, pos, negsuc, refl, ⊎_elim, arith, w32, of_z}
+use Rattle.std.proofs.Common.{◌≡◌, zero, suc, false, get_or, ℤ, pos, negsuc, refl, arith, w32, of_z}
 use Rattle.cnf.specs.Tables.{is_zero}
 use Rattle.formula.proofs.Sums.{at_all}
 use Rattle.formula.proofs.formula.first_zero.Goals as goal

@@ -1,4 +1,4 @@
-use Rattle.std.proofs.Common.{◌≡◌, ◌+◌, sym, refl, ap, ◌∙◌, subst, arith}
+use Rattle.std.proofs.Common.{◌≡◌, ◌+◌, sym, subst, arith}
 use Rattle.formula.specs.Entries.{entries_to}
 use Rattle.formula.proofs.Adding.{Adding, adding_start, adding_room, adding_more, added}
 use Rattle.formula.proofs.formula.Formula.add_clause.Goals as goal

@@ -10,18 +10,19 @@ loop-v-init c = (
   refl,
 )
 
-pub add-variable-requires : goal.add-variable-requires
-add-variable-requires c =
-    let f = c.args.f.now in (
-      (c.requires.0, (c.loop-v-test.true, c.loop-v.invariant.0)),
-      omega (arith, lists_room f (suc c.loop-v.v) c.requires.0 (omega arith), c.loop-v.invariant.1),
-    )
+pub add_variable-requires : goal.add_variable-requires
+add_variable-requires c =
+    let f = c.args.f.now in
+    record {
+      made = (c.requires.0, (c.loop-v-test.true, c.loop-v.invariant.0));
+      clauses_bound = omega (arith, lists_room f (suc c.loop-v.v) c.requires.0 (omega arith), c.loop-v.invariant.1);
+    }
 
 pub loop-v-preserved : goal.loop-v-preserved
 loop-v-preserved c =
     let f = c.args.f.now in (
-      c.add-variable.ensures.occurs,
-      c.add-variable.ensures.more
+      c.add_variable.ensures.occurs,
+      c.add_variable.ensures.more
           ∙ (ap (λ n. n + length (passing (names_at f c.loop-v.v) f.clauses)) c.loop-v.invariant.1
           ∙ ap (λ n. sum_to n (λ x. length (passing (names_at f x) f.clauses))) (sym (add-one c.loop-v.v))),
     )
