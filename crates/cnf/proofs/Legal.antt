@@ -1,7 +1,7 @@
 -- A table is accepted exactly when it is legal.
 use Rattle.std.proofs.Common.{◌≡◌, ℕ, zero, suc, ◌+◌, ◌<◌, ◌≤◌, Bool, true, false, cond, eqb, ltb, leb, List, [], ◌∷◌, ◌++◌, length, ℤ, pos, negsuc, nat_abs, Ok, Err, Result, sym, refl, ap, ◌∙◌, subst, ⊎_elim, true≢false, arith}
 use Rattle.std.proofs.lemmas.Bool.{cond-true, cond-false, le-leb, lt-leb, leb-true, leb-false, ltb-false, le-ltb, and_from, and_parts, cases_Bool, ne_eqb, eqb-false}
-use Rattle.std.specs.List.{AllByRecursion as All}
+use Rattle.std.specs.List.{AllByRecursion}
 use Rattle.cnf.specs.declared.refusal.Check.{Check}
 use Rattle.cnf.specs.declared.refusal.Check.TheVariants.{Limits, ClauseCount, VariableRange, EmptyClause, LiteralCount}
 use Rattle.cnf.specs.declared.refusal.Refusal.{Refusal}
@@ -115,8 +115,8 @@ spelled-tallied v t i true e (stop {ws} {n} {k} s) l m =
 
 -- the clauses of such words, the first of them begun or not
 abbrev Parts : ℕ → Bool → List ℤ → ℕ → ℕ → Type 0
-Parts v false ws n k = (cs : List (List ℤ)) × (ws ≡ spelled cs) × All (Clause v) cs × (length cs ≡ n) × (literals_in cs ≡ k)
-Parts v true ws n k = (c : List ℤ) × (cs : List (List ℤ)) × (ws ≡ c ++ (pos 0 ∷ spelled cs)) × All (Literal v) c × All (Clause v) cs × (suc (length cs) ≡ n) × (length c + literals_in cs ≡ k)
+Parts v false ws n k = (cs : List (List ℤ)) × (ws ≡ spelled cs) × AllByRecursion (Clause v) cs × (length cs ≡ n) × (literals_in cs ≡ k)
+Parts v true ws n k = (c : List ℤ) × (cs : List (List ℤ)) × (ws ≡ c ++ (pos 0 ∷ spelled cs)) × AllByRecursion (Literal v) c × AllByRecursion (Clause v) cs × (suc (length cs) ≡ n) × (length c + literals_in cs ≡ k)
 
 literal_onto : (v : ℕ) (b : Bool) (w : ℤ) (ws : List ℤ) (n k : ℕ) → Literal v w → Parts v true ws n k → Parts v b (w ∷ ws) n (suc k)
 literal_onto v true w ws n k h p = (w ∷ p.0, p.1, ap (λ l. w ∷ l) p.2, (h, p.3), p.4, p.5, omega (arith, p.6))
@@ -129,11 +129,11 @@ parts v true (stop {ws} {n} {k} s) =
     let p = parts v false s in
     ([], p.0, ap (λ l. pos 0 ∷ l) p.1, tt, p.2, ap suc p.3, omega (arith, p.4))
 
-clause_spells : (v : ℕ) (c ws : List ℤ) (n k : ℕ) → All (Literal v) c → Spells v true ws n k → Spells v true (c ++ ws) n (length c + k)
+clause_spells : (v : ℕ) (c ws : List ℤ) (n k : ℕ) → AllByRecursion (Literal v) c → Spells v true ws n k → Spells v true (c ++ ws) n (length c + k)
 clause_spells v [] ws n k h s = subst (Spells v true ws n) (omega arith) s
 clause_spells v (w ∷ c) ws n k h s = subst (Spells v true (w ∷ (c ++ ws)) n) (omega arith) (literal h.0 (clause_spells v c ws n k h.1 s))
 
-pub clauses_spell : (v : ℕ) (cs : List (List ℤ)) → All (Clause v) cs → Spells v false (spelled cs) (length cs) (literals_in cs)
+pub clauses_spell : (v : ℕ) (cs : List (List ℤ)) → AllByRecursion (Clause v) cs → Spells v false (spelled cs) (length cs) (literals_in cs)
 clauses_spell v [] h = done
 clauses_spell v ([] ∷ cs) h = absurd (omega (arith, h.0.0))
 clauses_spell v ((w ∷ c) ∷ cs) h =
@@ -180,12 +180,12 @@ legal_is_accepted v ws l =
 pub accepts_legal_tables : (v : ℕ) (ws : List ℤ) → AcceptsLegalTables v ws
 accepts_legal_tables v ws = record { only = accepted_is_legal v ws; every = legal_is_accepted v ws }
 
-clause_of_lem : (v : ℕ) (c ws : List ℤ) → All (Literal v) c → clauses_of (c ++ (pos 0 ∷ ws)) ≡ c ∷ clauses_of ws
+clause_of_lem : (v : ℕ) (c ws : List ℤ) → AllByRecursion (Literal v) c → clauses_of (c ++ (pos 0 ∷ ws)) ≡ c ∷ clauses_of ws
 clause_of_lem v [] ws h = refl
 clause_of_lem v (w ∷ c) ws h = cond-false _ _ _ (literal_word w h.0.0) ∙ ap (onto w) (clause_of_lem v c ws h.1)
 
 -- clauses come out of their words again
-pub clauses_of-spelled : (v : ℕ) (cs : List (List ℤ)) → All (Clause v) cs → clauses_of (spelled cs) ≡ cs
+pub clauses_of-spelled : (v : ℕ) (cs : List (List ℤ)) → AllByRecursion (Clause v) cs → clauses_of (spelled cs) ≡ cs
 clauses_of-spelled v [] h = refl
 clauses_of-spelled v (c ∷ cs) h = clause_of_lem v c (spelled cs) h.0.1 ∙ ap (λ l. c ∷ l) (clauses_of-spelled v cs h.1)
 

@@ -1,6 +1,6 @@
 -- Tables of rules. The word k is the literal of variable k, −k is its negation, and 0 ends a clause.
 use Rattle.std.specs.Prelude.{◌≡◌, ℕ, zero, suc, ◌+◌, ◌<◌, ◌≤◌, Bool, true, false, cond, not, ◌||◌, List, [], ◌∷◌, ◌++◌, length, ℤ, pos, negsuc, Some, None, Option, ◌==◌, slice_index, unsigned_abs}
-use Rattle.std.specs.List.{AllByRecursion as All}
+use Rattle.std.specs.List.{AllByRecursion}
 
 abbrev pub is_zero : ℤ → Bool
 is_zero (pos zero) = true
@@ -12,7 +12,7 @@ abbrev pub Literal : ℕ → ℤ → Type 0
 Literal v w = (1 ≤ unsigned_abs w) × (unsigned_abs w ≤ v)
 
 abbrev pub Clause : ℕ → List ℤ → Type 0
-Clause v c = (0 < length c) × All (Literal v) c
+Clause v c = (0 < length c) × AllByRecursion (Literal v) c
 
 -- the words of clauses, each ended by 0
 abbrev pub spelled : List (List ℤ) → List ℤ
@@ -29,7 +29,7 @@ pub record Legal (v : ℕ) (ws : List ℤ) : Type 0 where
   pub variables : (1 ≤ v) × (v ≤ 256)
   pub clauses : List (List ℤ)
   pub words : ws ≡ spelled clauses
-  pub each : All (Clause v) clauses
+  pub each : AllByRecursion (Clause v) clauses
   pub number : (1 ≤ length clauses) × (length clauses ≤ 1024)
   pub literals : literals_in clauses ≤ 4096
 

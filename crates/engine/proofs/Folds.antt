@@ -1,6 +1,6 @@
 -- One candidate more.
 use Rattle.std.proofs.Common.{◌≡◌, ℕ, zero, suc, ◌+◌, ◌<◌, Bool, true, false, cond, List, [], ◌∷◌, ◌++◌, Some, None, fold, Option, sym, refl, ap, ◌∙◌, subst, append-nil, add-one}
-use Rattle.std.specs.List.{AllByRecursion as All}
+use Rattle.std.specs.List.{AllByRecursion}
 use Rattle.std.proofs.ByRecursion.{All-append}
 use Rattle.std.proofs.lemmas.Bool.{cond_both, ltb-true}
 use Rattle.std.proofs.lemmas.List.Sums.{fold_push}
@@ -24,19 +24,19 @@ challenged_every : (P : ℕ → Type 0) (before : ℕ → ℕ → Bool) (o : Opt
 challenged_every P before None x h p = p
 challenged_every P before (Some b) x h p = cond_both (before x b) x b P (λ _. p) (λ _. h)
 
-folded_every : (P : ℕ → Type 0) (before : ℕ → ℕ → Bool) (o : Option ℕ) (xs : List ℕ) → Every P o → All P xs → Every P (fold (challenged before) o xs)
+folded_every : (P : ℕ → Type 0) (before : ℕ → ℕ → Bool) (o : Option ℕ) (xs : List ℕ) → Every P o → AllByRecursion P xs → Every P (fold (challenged before) o xs)
 folded_every P before o [] h a = h
 folded_every P before o (x ∷ xs) h a = folded_every P before (challenged before o x) xs (challenged_every P before o x h a.0) a.1
 
 -- what is picked has what every candidate has
-pub best_every : (P : ℕ → Type 0) (before : ℕ → ℕ → Bool) (xs : List ℕ) (x : ℕ) → All P xs → best_of before xs ≡ Some x → P x
+pub best_every : (P : ℕ → Type 0) (before : ℕ → ℕ → Bool) (xs : List ℕ) (x : ℕ) → AllByRecursion P xs → best_of before xs ≡ Some x → P x
 best_every P before xs x a e = subst (Every P) e (folded_every P before None xs tt a)
 
-last_passes : (p : ℕ → Bool) (n : ℕ) (b : Bool) → p n ≡ b → All (λ x. p x ≡ true) (cond b (n ∷ []) [])
+last_passes : (p : ℕ → Bool) (n : ℕ) (b : Bool) → p n ≡ b → AllByRecursion (λ x. p x ≡ true) (cond b (n ∷ []) [])
 last_passes p n true e = (e, tt)
 last_passes p n false e = tt
 
-pub passing_passes : (p : ℕ → Bool) (n : ℕ) → All (λ x. p x ≡ true) (passing p n)
+pub passing_passes : (p : ℕ → Bool) (n : ℕ) → AllByRecursion (λ x. p x ≡ true) (passing p n)
 passing_passes p zero = tt
 passing_passes p (suc n) = All-append (λ x. p x ≡ true) (passing p n) _ (passing_passes p n) (last_passes p n (p n) refl)
 

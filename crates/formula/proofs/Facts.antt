@@ -4,7 +4,7 @@ use native.Mathlib.Bridge.{le_prop}
 use std.HLevel.{Π_prop}
 use base.Stored.{Coded, coded_ℕ, coded_bool, coded×, coded_via}
 use denote.Struct.Props.{props}
-use Rattle.std.specs.List.{AllByRecursion as All}
+use Rattle.std.specs.List.{AllByRecursion}
 use Rattle.cnf.specs.Tables.{Literal, Clause}
 use Rattle.formula.specs.declared.entry.Entry.{Entry}
 use Rattle.formula.specs.declared.formula.Formula.{Formula}
@@ -32,7 +32,7 @@ pub distinct_prop : (es : List Entry) → IsProp (Distinct es)
 distinct_prop [] = hlevel props
 distinct_prop (e ∷ es) = let h = distinct_prop es in hlevel (props, h)
 
-pub all_prop : {X : Type 0} (P : X → Type 0) → ((x : X) → IsProp (P x)) → (xs : List X) → IsProp (All P xs)
+pub all_prop : {X : Type 0} (P : X → Type 0) → ((x : X) → IsProp (P x)) → (xs : List X) → IsProp (AllByRecursion P xs)
 all_prop P h [] = hlevel props
 all_prop P h (x ∷ xs) = let k = all_prop P h xs in let j = h x in hlevel (props, j, k)
 

@@ -1,6 +1,6 @@
 -- Splitting the words of a table into its clauses.
 use Rattle.std.proofs.Common.{◌≡◌, ℕ, zero, suc, ◌+◌, ◌-◌, ◌<◌, ◌≤◌, true, false, cond, List, [], ◌∷◌, ◌++◌, length, get_or, take, drop, ℤ, pos, negsuc, sym, refl, ap, ◌∙◌, subst, ap₂, ⊎_elim, arith}
-use Rattle.std.specs.List.{AllByRecursion as All}
+use Rattle.std.specs.List.{AllByRecursion}
 use Rattle.std.proofs.lemmas.Bool.{cases_lt, cases_order, false≢true}
 use Rattle.std.proofs.lemmas.List.{drop_more, drop_all, drop_at, drop-drop, take_at, length-drop, length-append, get_or-drop, get_or_append_left, get_or_at, append_assoc}
 use Rattle.std.proofs.ByRecursion.{All-get_or}
@@ -18,14 +18,14 @@ literal_nonzero v (pos (suc n)) h = refl
 literal_nonzero v (negsuc n) h = refl
 
 -- a clause in front
-clause_front : (v : ℕ) (c ws : List ℤ) → All (Literal v) c → clauses_of (c ++ (pos 0 ∷ ws)) ≡ c ∷ clauses_of ws
+clause_front : (v : ℕ) (c ws : List ℤ) → AllByRecursion (Literal v) c → clauses_of (c ++ (pos 0 ∷ ws)) ≡ c ∷ clauses_of ws
 clause_front v [] ws h = refl
 clause_front v (w ∷ c) ws h =
     ap (λ b. cond b ([] ∷ clauses_of (c ++ (pos 0 ∷ ws))) (onto w (clauses_of (c ++ (pos 0 ∷ ws))))) (literal_nonzero v w h.0)
     ∙ ap (onto w) (clause_front v c ws h.1)
 
 -- the clauses that spelled clauses spell are these
-pub clauses_spelled : (v : ℕ) (cs : List (List ℤ)) → All (Clause v) cs → clauses_of (spelled cs) ≡ cs
+pub clauses_spelled : (v : ℕ) (cs : List (List ℤ)) → AllByRecursion (Clause v) cs → clauses_of (spelled cs) ≡ cs
 clauses_spelled v [] h = refl
 clauses_spelled v (c ∷ cs) h = clause_front v c (spelled cs) h.0.1 ∙ ap (λ ds. c ∷ ds) (clauses_spelled v cs h.1)
 
@@ -44,7 +44,7 @@ pub literals-drop : (n : ℕ) (cs : List (List ℤ)) → n < length cs → liter
 literals-drop n cs l = ap literals_in (drop_more cs n [] l)
 
 -- the first 0 after a clause's words is the one that ends it
-pub zero_is : (v : ℕ) (ws c rest : List ℤ) (k r : ℕ) → All (Literal v) c → k < length ws → drop k ws ≡ c ++ (pos 0 ∷ rest) → FirstZero ws k r → r ≡ k + length c
+pub zero_is : (v : ℕ) (ws c rest : List ℤ) (k r : ℕ) → AllByRecursion (Literal v) c → k < length ws → drop k ws ≡ c ++ (pos 0 ∷ rest) → FirstZero ws k r → r ≡ k + length c
 zero_is v ws c rest k r h l e z =
     let n : length ws - k ≡ length c + (length rest + 1) = sym (length-drop k ws) ∙ (ap length e ∙ (length-append c (pos 0 ∷ rest) ∙ omega arith)) in
     let word : (i : ℕ) → get_or ws (k + i) (pos 0) ≡ get_or (c ++ (pos 0 ∷ rest)) i (pos 0) = λ i. sym (get_or-drop k ws i (pos 0)) ∙ ap (λ xs. get_or xs i (pos 0)) e in

@@ -1,6 +1,6 @@
 -- The entries of a clause mean what its words mean.
 use Rattle.std.proofs.Common.{◌≡◌, ℕ, zero, suc, ◌<◌, ◌≤◌, Bool, true, false, cond, not, ◌&&◌, ◌||◌, eqb, List, [], ◌∷◌, ◌++◌, map, ℤ, pos, negsuc, sym, refl, ap, ◌∙◌, ap₂, ⊎_elim, arith}
-use Rattle.std.specs.List.{AllByRecursion as All}
+use Rattle.std.specs.List.{AllByRecursion}
 use Rattle.std.proofs.lemmas.Bool.{cases_eq, cases_lt, eq-eqb, ne_eqb, or_from, false≢true}
 use Rattle.std.proofs.lemmas.List.{map-append}
 use Rattle.std.proofs.lemmas.Bool.Decides.{nat_tests}
@@ -95,7 +95,7 @@ one_is a n (negsuc v) r =
     only n (one a (negsuc v)) v (omega (arith, r.1)) (λ k ne. ap (λ b. b && not (a k)) (ne_eqb v k (λ e. ne (sym e))))
     ∙ ap (λ b. b && not (a v)) (eq-eqb v v refl)
 
-on_all : (a : ℕ → Bool) (n : ℕ) (c : List ℤ) → All (Literal n) c → any_to n (on a c) ≡ satisfied a c
+on_all : (a : ℕ → Bool) (n : ℕ) (c : List ℤ) → AllByRecursion (Literal n) c → any_to n (on a c) ≡ satisfied a c
 unfolding on
 on_all a n [] r = any_to_none n (on a []) (λ k _. refl)
 on_all a n (w ∷ ws) r = any_to_same n (on a (w ∷ ws)) (λ v. one a w v || on a ws v) (λ v _. on_cons a w ws v) ∙ (any_to_or n (one a w) (on a ws) ∙ ap₂ ◌||◌ (one_is a n w r.0) (on_all a n ws r.1))
@@ -105,7 +105,7 @@ word_names v (pos zero) x r = absurd (omega (arith, r.0))
 word_names v (pos (suc m)) x r = grind (arith, nat_tests)
 word_names v (negsuc m) x r = refl
 
-hit_names : (v : ℕ) (c : List ℤ) (x : ℕ) → All (Literal v) c → names c x ≡ hit x c
+hit_names : (v : ℕ) (c : List ℤ) (x : ℕ) → AllByRecursion (Literal v) c → names c x ≡ hit x c
 hit_names v [] x r = refl
 hit_names v (w ∷ ws) x r =
     ap₂ ◌||◌ (word_names v w x r.0) (hit_names v ws x r.1)
@@ -141,7 +141,7 @@ named_normal c (suc n) x l =
     and_false true = refl
     and_false false = refl
 
-names_small : (v : ℕ) (c : List ℤ) (x : ℕ) → All (Literal v) c → v ≤ x → names c x ≡ false
+names_small : (v : ℕ) (c : List ℤ) (x : ℕ) → AllByRecursion (Literal v) c → v ≤ x → names c x ≡ false
 names_small v [] x r l = refl
 names_small v (w ∷ ws) x r l = or_from _ _ (ne_eqb (variable_of w) x (λ e. omega (arith, small w r.0))) (names_small v ws x r.1 l)
   where

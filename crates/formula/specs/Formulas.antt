@@ -1,6 +1,6 @@
 -- What a formula's arrays hold.
 use Rattle.std.specs.Prelude.{◌≡◌, ℕ, ◌+◌, ◌-◌, ◌<◌, ◌≤◌, true, false, cond, ◌||◌, List, [], length, take, drop, ℤ, pos, slice_index_or, slice_set}
-use Rattle.std.specs.List.{AllByRecursion as All}
+use Rattle.std.specs.List.{AllByRecursion}
 use Rattle.cnf.specs.Tables.{Clause, is_zero}
 use Rattle.formula.specs.declared.entry.Entry.{Entry}
 use Rattle.formula.specs.declared.formula.Span.{Span}
@@ -61,7 +61,7 @@ pub record Holds (v : ℕ) (cs : List (List ℤ)) (f : Formula) : Type 0 where
   pub variables : f.variables ≡ v
   pub clauses : f.clauses ≡ length cs
   pub entries : (i : ℕ) → i < length cs → entries_of f i ≡ entries_to (slice_index_or cs i []) v
-  pub each : All (Clause v) cs
+  pub each : AllByRecursion (Clause v) cs
 
 -- the place of the first 0 at or after the place k, or the end
 pub record FirstZero (ws : List ℤ) (k r : ℕ) : Type 0 where

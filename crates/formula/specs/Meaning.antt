@@ -1,6 +1,6 @@
 -- The entries of a clause mean what its words mean.
 use Rattle.std.specs.Prelude.{◌≡◌, ℕ, not, List, map, ℤ, ◌==◌}
-use Rattle.std.specs.List.{AllByRecursion as All}
+use Rattle.std.specs.List.{AllByRecursion}
 use Rattle.cnf.specs.Tables.{Assignment, Literal, satisfied}
 use Rattle.formula.specs.declared.entry.Entry.{Entry}
 use Rattle.formula.specs.Clauses.{names}
@@ -14,4 +14,4 @@ pub record Same (v : ℕ) (c : List ℤ) : Type 0 where
   pub variables : map (λ (e : Entry). e.variable) (entries_to c v) ≡ passing (names c) v
 
 abbrev pub SameMeaning : Type 0
-SameMeaning = (v : ℕ) (c : List ℤ) → All (Literal v) c → Same v c
+SameMeaning = (v : ℕ) (c : List ℤ) → AllByRecursion (Literal v) c → Same v c

@@ -1,6 +1,6 @@
 -- What holds of every history.
 use Rattle.std.proofs.Common.{◌≡◌, ℕ, suc, ◌+◌, ◌<◌, ◌≤◌, Bool, true, false, cond, List, [], ◌∷◌, ◌++◌, length, get_or, ℤ, pos, ◌+ℤ◌, ◌-ℤ◌, ◌<ℤ◌, Some, None, Option, sym, refl, ap, ◌∙◌, subst, arith}
-use Rattle.std.specs.List.{AllByRecursion as All}
+use Rattle.std.specs.List.{AllByRecursion}
 use Rattle.std.proofs.ByRecursion.{All-weaker}
 use Rattle.std.proofs.lemmas.Int.{ints}
 use Rattle.policy.specs.Levels.{Levels, LawfulLevels}
@@ -25,10 +25,10 @@ record Lower (m n : Model) : Type 0 where
 -- from m down to n, with these records, over these models
 record Descent (m n : Model) (vs : List Move) (ms : List Model) : Type 0 where
   paid : pos (cost m) ≡ pos (cost n) +ℤ scores_of vs
-  above : All (λ v. pos 0 <ℤ v.score) vs
+  above : AllByRecursion (λ v. pos 0 <ℤ v.score) vs
   apart : Apart (m ∷ ms)
   few : length vs ≤ cost m
-  lower : All (Lower m) ms
+  lower : AllByRecursion (Lower m) ms
 
 -- equal assignments cost the same under the same weights
 same_cost : (m n : Model) → n.clauses ≡ m.clauses → n.weights ≡ m.weights → m.values ≡ n.values → cost m ≡ cost n
@@ -64,7 +64,7 @@ step_descent f o m a n vs ms (greedy x e p) l h g d =
 step_descent f o m a n vs ms (dives x e p q) l h g d = absurd (omega arith)
 step_descent f o m a n vs ms (dries e p q) l h g d = d
 
-descent : (m : Model) (es : List Event) → Filled m → All LawfulEvent es → Stretch m es → Descent m (last_of m es) (moves_in m es) (models_in m es)
+descent : (m : Model) (es : List Event) → Filled m → AllByRecursion LawfulEvent es → Stretch m es → Descent m (last_of m es) (moves_in m es) (models_in m es)
 descent m [] h l s = record { paid = omega (arith, ints); above = tt; apart = (tt, tt); few = omega arith; lower = tt }
 descent m (begins v cs start ∷ es) h l s = absurd s
 descent m (flips x ∷ es) h l s = absurd s
@@ -73,11 +73,11 @@ descent m (steps f o ∷ es) h l s =
     step_descent f o m (stepped f o m) _ _ _ (view f o m) l.0 h s.0 (descent (stepped f o m).model es (step_filled f o m h) l.1 s.1)
 
 -- a front of a history that is lawful is lawful, and so is what follows it
-all_front : {X : Type 0} (P : X → Type 0) (xs ys : List X) → All P (xs ++ ys) → All P xs
+all_front : {X : Type 0} (P : X → Type 0) (xs ys : List X) → AllByRecursion P (xs ++ ys) → AllByRecursion P xs
 all_front P [] ys a = tt
 all_front P (x ∷ xs) ys a = (a.0, all_front P xs ys a.1)
 
-all_behind : {X : Type 0} (P : X → Type 0) (xs ys : List X) → All P (xs ++ ys) → All P ys
+all_behind : {X : Type 0} (P : X → Type 0) (xs ys : List X) → AllByRecursion P (xs ++ ys) → AllByRecursion P ys
 all_behind P [] ys a = a
 all_behind P (x ∷ xs) ys a = all_behind P xs ys a.1
 
@@ -90,13 +90,13 @@ happened-filled weighs (Some m) l h = filling.tick (weighed m) (filling.weighing
 happened-filled (steps f o) None l h = tt
 happened-filled (steps f o) (Some m) l h = step_filled f o m h
 
-pub holding-filled : (es : List Event) (o : Option Model) → All LawfulEvent es → FilledIn o → FilledIn (holding es o)
+pub holding-filled : (es : List Event) (o : Option Model) → AllByRecursion LawfulEvent es → FilledIn o → FilledIn (holding es o)
 holding-filled [] o l h = h
 holding-filled (e ∷ es) o l h = holding-filled es (happened e o) l.1 (happened-filled e o l.0 h)
 
 pub histories_hold : HistoriesHold
 histories_hold es l = record {
-  whole = λ before rest e. holding-filled before None (all_front LawfulEvent before rest (subst (All LawfulEvent) e l)) tt;
+  whole = λ before rest e. holding-filled before None (all_front LawfulEvent before rest (subst (AllByRecursion LawfulEvent) e l)) tt;
   means = λ before rest f o m e q. step_means f o m;
-  stretches = λ before stretch rest m e q s. (let a = subst (All LawfulEvent) e l in let h = subst FilledIn q (holding-filled before None (all_front LawfulEvent before (stretch ++ rest) a) tt) in let d = descent m stretch h (all_front LawfulEvent stretch rest (all_behind LawfulEvent before (stretch ++ rest) a)) s in record { paid = d.paid; above = d.above; apart = d.apart; few = d.few });
+  stretches = λ before stretch rest m e q s. (let a = subst (AllByRecursion LawfulEvent) e l in let h = subst FilledIn q (holding-filled before None (all_front LawfulEvent before (stretch ++ rest) a) tt) in let d = descent m stretch h (all_front LawfulEvent stretch rest (all_behind LawfulEvent before (stretch ++ rest) a)) s in record { paid = d.paid; above = d.above; apart = d.apart; few = d.few });
 }

@@ -1,6 +1,6 @@
 -- The history that calls make leads to what they leave, and is lawful.
 use Rattle.std.proofs.Common.{◌≡◌, ℕ, zero, suc, ◌+◌, ◌-◌, Bool, true, false, cond, eqb, leb, List, [], ◌∷◌, ◌++◌, length, ℤ, Some, None, Ok, Err, Option, Result, sym, refl, ap, ◌∙◌, subst, arith}
-use Rattle.std.specs.List.{AllByRecursion as All}
+use Rattle.std.specs.List.{AllByRecursion}
 use Rattle.std.proofs.ByRecursion.{All-append}
 use Rattle.std.proofs.lemmas.Bool.{eqb-true}
 use Rattle.cnf.specs.declared.refusal.Check.TheVariants.{HasFormula, TicksLeft, StartValues}
@@ -117,7 +117,7 @@ sized_by v start false e x h = let z : ◌≡◌ {A = ℕ} 0 1 = cc in absurd (o
 sized : (v : ℕ) (start : List ℕ) (x : Unit) → start_checked v start ≡ Ok x → length start ≡ v
 sized v start x h = sized_by v start (eqb (length start) v) refl x h
 
-begun_lawful : (r : Result Unit Refusal) (new old : Option Model) (v : ℕ) (cs : List (List ℤ)) (start : List ℕ) → ((x : Unit) → r ≡ Ok x → length start ≡ v) → All LawfulEvent (accepted (replied r new old).answer (begins v cs start ∷ []))
+begun_lawful : (r : Result Unit Refusal) (new old : Option Model) (v : ℕ) (cs : List (List ℤ)) (start : List ℕ) → ((x : Unit) → r ≡ Ok x → length start ≡ v) → AllByRecursion LawfulEvent (accepted (replied r new old).answer (begins v cs start ∷ []))
 begun_lawful (Ok x) new old v cs start h = (h x refl, tt)
 begun_lawful (Err f) new old v cs start h = tt
 
@@ -125,47 +125,47 @@ checked_both : {A : Type 0} (t : Result A Refusal) (v : ℕ) (start : List ℕ) 
 checked_both (Ok a) v start x h = sized v start x h
 checked_both (Err f) v start x h = let z : ◌≡◌ {A = ℕ} 0 1 = cc in absurd (omega arith)
 
-load_lawful : {Σ : Type 0} (v : ℕ) (ws : Option (List ℤ)) (start : Option (List ℕ)) (o : Option Model) (ss : List Σ) (trail : List Move) → All LawfulEvent (load_with v ws start o ss trail).events
+load_lawful : {Σ : Type 0} (v : ℕ) (ws : Option (List ℤ)) (start : Option (List ℕ)) (o : Option Model) (ss : List Σ) (trail : List Move) → AllByRecursion LawfulEvent (load_with v ws start o ss trail).events
 load_lawful v None start o ss trail = tt
 load_lawful v (Some ws) None o ss trail = tt
 load_lawful v (Some ws) (Some start) o ss trail = begun_lawful (and_then (table_checked v ws) (λ _. start_checked v start)) (Some (loaded v ws start)) o v (clauses_of ws) start (checked_both (table_checked v ws) v start)
 
-restart_lawful : {Σ : Type 0} (start : Option (List ℕ)) (o : Option Model) (ss : List Σ) (trail : List Move) → All LawfulEvent (restart_with start o ss trail).events
+restart_lawful : {Σ : Type 0} (start : Option (List ℕ)) (o : Option Model) (ss : List Σ) (trail : List Move) → AllByRecursion LawfulEvent (restart_with start o ss trail).events
 restart_lawful None o ss trail = tt
 restart_lawful (Some start) None ss trail = tt
 restart_lawful (Some start) (Some m) ss trail = begun_lawful (start_checked m.variables start) (Some (restarted m start)) (Some m) m.variables m.clauses start (sized m.variables start)
 
-accepted_lawful : {A : Type 0} (r : Result A Refusal) (es : List Event) → All LawfulEvent es → All LawfulEvent (accepted r es)
+accepted_lawful : {A : Type 0} (r : Result A Refusal) (es : List Event) → AllByRecursion LawfulEvent es → AllByRecursion LawfulEvent (accepted r es)
 accepted_lawful (Ok x) es h = h
 accepted_lawful (Err f) es h = tt
 
 module _ {Σ : Type 0} (f : Levels) (u : Meaning Σ) (l : LawfulLevels f) where
-  onwards_lawful : (a : Stepped) (o : Option ℕ) (es : List Event) → All LawfulEvent es → All LawfulEvent (onwards a (steps f o) es)
+  onwards_lawful : (a : Stepped) (o : Option ℕ) (es : List Event) → AllByRecursion LawfulEvent es → AllByRecursion LawfulEvent (onwards a (steps f o) es)
   onwards_lawful step.Found o es h = tt
   onwards_lawful step.Dry o es h = (l, tt)
   onwards_lawful (step.Moved v) o es h = (l, h)
 
-  run_lawful : (b : ℕ) (m : Model) (s : Σ) → All LawfulEvent (run_events f u b m s)
+  run_lawful : (b : ℕ) (m : Model) (s : Σ) → AllByRecursion LawfulEvent (run_events f u b m s)
   run_lawful zero m s = tt
   run_lawful (suc b) m s = onwards_lawful (stepped f (offer u s) m).answer (offer u s) _ (run_lawful b (stepped f (offer u s) m).model (left u (stepped f (offer u s) m).answer s))
 
-  run_of_lawful : (b : ℕ) (o : Option Model) (s : Σ) → All LawfulEvent (run_events_of f u b o s)
+  run_of_lawful : (b : ℕ) (o : Option Model) (s : Σ) → AllByRecursion LawfulEvent (run_events_of f u b o s)
   run_of_lawful b None s = tt
   run_of_lawful b (Some m) s = run_lawful b m s
 
 module _ {Π Σ : Type 0} (lv : Π → Levels) (l : (p : Π) → LawfulLevels (lv p)) (u : Meaning Σ) where
-  step_with_lawful : (p : Option Π) (s : Option Σ) (j : ℕ) (o : Option Model) (ss : List Σ) (trail : List Move) → All LawfulEvent (step_with lv u p s j o ss trail).events
+  step_with_lawful : (p : Option Π) (s : Option Σ) (j : ℕ) (o : Option Model) (ss : List Σ) (trail : List Move) → AllByRecursion LawfulEvent (step_with lv u p s j o ss trail).events
   step_with_lawful None s j o ss trail = tt
   step_with_lawful (Some p) None j o ss trail = tt
   step_with_lawful (Some p) (Some s) j o ss trail = accepted_lawful (step_reply (lv p) u o s).answer (step_events (lv p) u s) (l p, tt)
 
-  run_with_lawful : (p : Option Π) (s : Option Σ) (j b : ℕ) (o : Option Model) (ss : List Σ) (trail : List Move) → All LawfulEvent (run_with lv u p s j b o ss trail).events
+  run_with_lawful : (p : Option Π) (s : Option Σ) (j b : ℕ) (o : Option Model) (ss : List Σ) (trail : List Move) → AllByRecursion LawfulEvent (run_with lv u p s j b o ss trail).events
   run_with_lawful None s j b o ss trail = tt
   run_with_lawful (Some p) None j b o ss trail = tt
   run_with_lawful (Some p) (Some s) j b o ss trail = accepted_lawful (run_reply (lv p) u b o s trail).answer (run_events_of (lv p) u b o s) (run_of_lawful (lv p) u (l p) b o s)
 
   module _ (ws : List ℤ) (starts : List ℕ) (ps : List Π) where
-    perform_lawful : (k : Call) (o : Option Model) (ss : List Σ) (trail : List Move) → All LawfulEvent (perform lv u ws starts ps k o ss trail).events
+    perform_lawful : (k : Call) (o : Option Model) (ss : List Σ) (trail : List Move) → AllByRecursion LawfulEvent (perform lv u ws starts ps k o ss trail).events
     unfolding perform
     perform_lawful (call.Load v p q) o ss trail = load_lawful v (lent ws p) (lent starts q) o ss trail
     perform_lawful (call.Restart q) o ss trail = restart_lawful (lent starts q) o ss trail
@@ -175,7 +175,7 @@ module _ {Π Σ : Type 0} (lv : Π → Levels) (l : (p : Π) → LawfulLevels (l
     perform_lawful (call.Run i j b) o ss trail = run_with_lawful (look ps i) (look ss j) j b o ss trail
     perform_lawful (call.Ask q) o ss trail = tt
 
-    pub went_lawful : (ks : List Call) (o : Option Model) (ss : List Σ) (trail : List Move) → All LawfulEvent (went lv u ws starts ps ks o ss trail).history
+    pub went_lawful : (ks : List Call) (o : Option Model) (ss : List Σ) (trail : List Move) → AllByRecursion LawfulEvent (went lv u ws starts ps ks o ss trail).history
     went_lawful [] o ss trail = tt
     went_lawful (k ∷ ks) o ss trail =
         let p = perform lv u ws starts ps k o ss trail in

@@ -1,6 +1,6 @@
 -- What picks, steps, runs and whole histories mean, in the words of the subject.
 use Rattle.std.specs.Prelude.{◌≡◌, ℕ, ◌+◌, ◌<◌, ◌≤◌, Bool, true, false, ◌⊎◌, List, [], ◌∷◌, ◌++◌, length, ℤ, pos, ◌+ℤ◌, ◌≤ℤ◌, ◌<ℤ◌, Some, None, Option, ◌≢◌}
-use Rattle.std.specs.List.{AllByRecursion as All}
+use Rattle.std.specs.List.{AllByRecursion}
 use Rattle.cnf.specs.Promises.{AllSatisfied}
 use Rattle.formula.specs.Clauses.{names}
 use Rattle.policy.specs.Levels.{Levels, LawfulLevels}
@@ -158,12 +158,12 @@ scores_of (v ∷ vs) = v.score +ℤ scores_of vs
 -- no assignment comes up twice
 abbrev pub Apart : List Model → Type 0
 Apart [] = Unit {0}
-Apart (m ∷ ms) = All (λ n. m.values ≢ n.values) ms × Apart ms
+Apart (m ∷ ms) = AllByRecursion (λ n. m.values ≢ n.values) ms × Apart ms
 
 -- a stretch that begins at m descends
 pub record Descends (m : Model) (es : List Event) : Type 0 where
   pub paid : pos (cost m) ≡ pos (cost (last_of m es)) +ℤ scores_of (moves_in m es)
-  pub above : All (λ v. pos 0 <ℤ v.score) (moves_in m es)
+  pub above : AllByRecursion (λ v. pos 0 <ℤ v.score) (moves_in m es)
   pub apart : Apart (m ∷ models_in m es)
   pub few : length (moves_in m es) ≤ cost m
 
@@ -178,4 +178,4 @@ pub record Held (es : List Event) : Type 0 where
   pub stretches : (before stretch rest : List Event) (m : Model) → es ≡ before ++ (stretch ++ rest) → holding before None ≡ Some m → Stretch m stretch → Descends m stretch
 
 abbrev pub HistoriesHold : Type 0
-HistoriesHold = (es : List Event) → All LawfulEvent es → Held es
+HistoriesHold = (es : List Event) → AllByRecursion LawfulEvent es → Held es

@@ -8,13 +8,13 @@ use Rattle.table.proofs.revise.shift.Goals as goal
 pub returns : goal.returns
 unfolding shift_z
 returns c =
-    let p = ap₂ (gain_z c.args.after.weight c.args.after.count) c.true-at-t.ensures c.true-at-f.ensures in
-    let q = ap₂ (gain_z c.args.before.weight c.args.before.count) c.true-at-t.ensures c.true-at-f.ensures in
+    let p = ap₂ (gain_z c.args.after.weight c.args.after.count) c.true_at-t.ensures c.true_at-f.ensures in
+    let q = ap₂ (gain_z c.args.before.weight c.args.before.count) c.true_at-t.ensures c.true_at-f.ensures in
     let r : c.gain.result -ℤ c.gain-2.result ≡ shift_z c.args.before c.args.after c.args.value c.args.e =
     ap₂ ◌-ℤ◌ (c.gain.ensures ∙ p) (c.gain-2.ensures ∙ q) in
     let wa : c.args.after.weight < 2 ^ 32 = search rules in
     let wb : c.args.before.weight < 2 ^ 32 = search rules in
     read_sub c.gain.result c.gain-2.result
-    (subst Within (sym c.gain.ensures) (gain_within c.args.after.weight c.args.after.count c.true-at-t.result c.true-at-f.result wa))
-    (subst Within (sym c.gain-2.ensures) (gain_within c.args.before.weight c.args.before.count c.true-at-t.result c.true-at-f.result wb))
+    (subst Within (sym c.gain.ensures) (gain_within c.args.after.weight c.args.after.count c.true_at-t.result c.true_at-f.result wa))
+    (subst Within (sym c.gain-2.ensures) (gain_within c.args.before.weight c.args.before.count c.true_at-t.result c.true_at-f.result wb))
     ∙ r

@@ -8,19 +8,19 @@ use Rattle.formula.specs.Entries.{named_in}
 use Rattle.table.specs.Rows.{value_at}
 use Rattle.table.proofs.table.Table.count_after.Goals as goal
 
-pub overflow-sub-result : goal.overflow-sub-result
-overflow-sub-result c = after_le (value_at c.args.self.now) c.args.es.now c.loop-e.e-index c.args.x c.args.before c.true-at.result _ c.loop-e-test.true c.requires.1.1.0 c.if-e-x.true c.requires.1.1.1 c.true-at.ensures refl
+pub overflow_sub-result : goal.overflow_sub-result
+overflow_sub-result c = after_le (value_at c.args.self.now) c.args.es.now c.loop-e.e-index c.args.x c.args.before c.true_at.result _ c.loop-e-test.true c.requires.1.1.0 c.if-e-x.true c.requires.1.1.1 c.true_at.ensures refl
 
-pub overflow-add-result : goal.overflow-add-result
-overflow-add-result c =
+pub overflow_add-result : goal.overflow_add-result
+overflow_add-result c =
     let n = count_le (flip_at c.args.x (value_at c.args.self.now)) c.args.es.now in
-    let e = after_is (value_at c.args.self.now) c.args.es.now c.loop-e.e-index c.args.x c.args.before c.true-at.result c.true-at-then-e-x.result c.loop-e-test.true c.requires.1.1.0 c.if-e-x.true c.requires.1.1.1 c.true-at.ensures c.true-at-then-e-x.ensures in
+    let e = after_is (value_at c.args.self.now) c.args.es.now c.loop-e.e-index c.args.x c.args.before c.true_at.result c.true_at-then-e-x.result c.loop-e-test.true c.requires.1.1.0 c.if-e-x.true c.requires.1.1.1 c.true_at.ensures c.true_at-then-e-x.ensures in
     search rules
 
 pub returns-then-e-x : goal.returns-then-e-x
 returns-then-e-x c = (
-  after_named (value_at c.args.self.now) c.args.es.now c.loop-e.e-index c.args.x c.args.before c.true-at.result c.true-at-then-e-x.result c.loop-e-test.true c.requires.1.1.0 c.if-e-x.true c.requires.1.1.1 c.true-at.ensures c.true-at-then-e-x.ensures,
-  after_is (value_at c.args.self.now) c.args.es.now c.loop-e.e-index c.args.x c.args.before c.true-at.result c.true-at-then-e-x.result c.loop-e-test.true c.requires.1.1.0 c.if-e-x.true c.requires.1.1.1 c.true-at.ensures c.true-at-then-e-x.ensures,
+  after_named (value_at c.args.self.now) c.args.es.now c.loop-e.e-index c.args.x c.args.before c.true_at.result c.true_at-then-e-x.result c.loop-e-test.true c.requires.1.1.0 c.if-e-x.true c.requires.1.1.1 c.true_at.ensures c.true_at-then-e-x.ensures,
+  after_is (value_at c.args.self.now) c.args.es.now c.loop-e.e-index c.args.x c.args.before c.true_at.result c.true_at-then-e-x.result c.loop-e-test.true c.requires.1.1.0 c.if-e-x.true c.requires.1.1.1 c.true_at.ensures c.true_at-then-e-x.ensures,
 )
 
 pub loop-e-preserved : goal.loop-e-preserved

@@ -15,8 +15,8 @@ loop-i-init c =
     let t = c.args.self.now in
     subst (λ xs. Left f x xs t t) (sym (c.requires.1.0.lists x c.requires.1.1.0)) (left_start f x t c.requires.1.1.1.1)
 
-pub clauses-of-occurring-requires : goal.clauses-of-occurring-requires
-clauses-of-occurring-requires c =
+pub clauses_of-occurring-requires : goal.clauses_of-occurring-requires
+clauses_of-occurring-requires c =
     let h = c.requires.1.0 in
     let x = c.args.x in
     let l = c.requires.1.1.0 in
@@ -28,7 +28,7 @@ revise-requires c =
     let x = c.args.x in
     let t = c.args.self.now in
     let xs = occurring_in c.args.o.now x in
-    let e = c.clauses-of-occurring.ensures in
+    let e = c.clauses_of-occurring.ensures in
     let k = c.loop-i.i-index in
     let m = subst (λ ys. k < length ys) e c.loop-i-test.true in
     let h = subst (λ ys. Left f x ys t c.loop-i.self) (drop_more xs k 0 m) c.loop-i.invariant in
@@ -42,7 +42,7 @@ loop-i-preserved c =
     let x = c.args.x in
     let t = c.args.self.now in
     let xs = occurring_in c.args.o.now x in
-    let e = c.clauses-of-occurring.ensures in
+    let e = c.clauses_of-occurring.ensures in
     let k = c.loop-i.i-index in
     let m = subst (λ ys. k < length ys) e c.loop-i-test.true in
     let h = subst (λ ys. Left f x ys t c.loop-i.self) (drop_more xs k 0 m) c.loop-i.invariant in
@@ -50,8 +50,8 @@ loop-i-preserved c =
     (subst (λ ys. Midway f c.revise.new.self x (get_or ys k 0 + 1)) e c.revise.ensures.midway)
     (subst (λ ys. Revised (entries_of f (get_or ys k 0)) x c.loop-i.self c.revise.new.self) e c.revise.ensures.revised)
 
-pub turn-row-requires : goal.turn-row-requires
-turn-row-requires c =
+pub turn_row-requires : goal.turn_row-requires
+turn_row-requires c =
     let since = c.loop-i.invariant.1.0.1 in (
       omega (arith, c.requires.0.few_variables, c.requires.1.1.0),
       (omega (arith, since.ticks, c.requires.1.1.1.0), subst Within (sym since.own) (score-within c.args.f.now c.args.self.now c.args.x c.requires.1.1.0 c.requires.1.1.1.1)),
@@ -64,5 +64,5 @@ returns c =
     let t = c.args.self.now in
     let u = c.loop-i.self in
     let xs = occurring_in c.args.o.now x in
-    let b = left_none f x t u c.requires.0 (subst (λ ys. Left f x ys t u) (drop_all c.loop-i.i-index xs (subst (λ ys. length ys ≤ c.loop-i.i-index) c.clauses-of-occurring.ensures c.loop-i-test.false)) c.loop-i.invariant) in
-    subst (Flipped f x t) (sym c.turn-row.ensures) (flipped_end f t u x c.requires.0 c.requires.1.1.0 c.requires.1.1.1.1 b.0 b.1)
+    let b = left_none f x t u c.requires.0 (subst (λ ys. Left f x ys t u) (drop_all c.loop-i.i-index xs (subst (λ ys. length ys ≤ c.loop-i.i-index) c.clauses_of-occurring.ensures c.loop-i-test.false)) c.loop-i.invariant) in
+    subst (Flipped f x t) (sym c.turn_row.ensures) (flipped_end f t u x c.requires.0 c.requires.1.1.0 c.requires.1.1.1.1 b.0 b.1)

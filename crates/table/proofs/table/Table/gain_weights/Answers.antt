@@ -4,8 +4,8 @@ use Rattle.table.specs.Rows.{weight_at, gained}
 use Rattle.table.proofs.Weighings.{weighing_light, weighing_more, weighing_now, gained_light}
 use Rattle.table.proofs.table.Table.gain_weights.Goals as goal
 
-pub gain-weight-requires : goal.gain-weight-requires
-gain-weight-requires c =
+pub gain_weight-requires : goal.gain_weight-requires
+gain_weight-requires c =
     let f = c.args.f.now in
     let t = c.args.self.now in
     let i = c.loop-i.i in
@@ -32,4 +32,4 @@ loop-i-preserved c =
     let i = c.loop-i.i in
     let u = c.loop-i.self in
     let e : gained u i ≡ gained t i = ap₂ (λ w n. w + cond (eqb n 0) 1 0) (weighing_now f (gained t) i t u c.loop-i.invariant) (c.loop-i.invariant.counts i) in
-    weighing_more f (gained t) i (gained u i) t u c.gain-weight.new.self e c.loop-i.invariant c.gain-weight.ensures
+    weighing_more f (gained t) i (gained u i) t u c.gain_weight.new.self e c.loop-i.invariant c.gain_weight.ensures

@@ -4,6 +4,6 @@ use Rattle.table.proofs.table.Table.reset_clauses.Goals as goal
 
 pub loop-i-preserved : goal.loop-i-preserved
 loop-i-preserved c = (
-  counted_more c.args.f.now c.loop-i.i c.count-of-count.result c.loop-i.self _ (omega (arith, c.requires.0.few_clauses)) c.loop-i.invariant.0 refl refl c.count-of-count.ensures,
+  counted_more c.args.f.now c.loop-i.i c.count_of-count.result c.loop-i.self _ (omega (arith, c.requires.0.few_clauses)) c.loop-i.invariant.0 refl refl c.count_of-count.ensures,
   c.loop-i.invariant.1,
 )

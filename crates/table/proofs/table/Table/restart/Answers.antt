@@ -7,10 +7,10 @@ pub level-requires : goal.level-requires
 level-requires c =
     let f = c.args.f.now in
     let start = c.args.start.now in
-    let u = c.reset-clauses.new.self in
-    let l : length u.rows ≡ 256 = ap length c.reset-clauses.ensures.1 ∙ c.reset-rows.ensures.0 in
-    let rs = rows_cleared start c.reset-rows.new.self u c.reset-clauses.ensures.1 c.reset-rows.ensures.1.1 in
-    let h = counted_cleared f f.clauses u c.reset-clauses.ensures.0 in (
+    let u = c.reset_clauses.new.self in
+    let l : length u.rows ≡ 256 = ap length c.reset_clauses.ensures.1 ∙ c.reset_rows.ensures.0 in
+    let rs = rows_cleared start c.reset_rows.new.self u c.reset_clauses.ensures.1 c.reset_rows.ensures.1.1 in
+    let h = counted_cleared f f.clauses u c.reset_clauses.ensures.0 in (
       c.requires.0,
       (
         sound_begin f start (cleared u) c.requires.0 c.requires.1.1 l rs h refl refl refl,
@@ -22,8 +22,8 @@ pub returns : goal.returns
 returns c =
     let f = c.args.f.now in
     let start = c.args.start.now in
-    let u = c.reset-clauses.new.self in
-    let l : length u.rows ≡ 256 = ap length c.reset-clauses.ensures.1 ∙ c.reset-rows.ensures.0 in
-    let rs = rows_cleared start c.reset-rows.new.self u c.reset-clauses.ensures.1 c.reset-rows.ensures.1.1 in
-    let h = counted_cleared f f.clauses u c.reset-clauses.ensures.0 in
+    let u = c.reset_clauses.new.self in
+    let l : length u.rows ≡ 256 = ap length c.reset_clauses.ensures.1 ∙ c.reset_rows.ensures.0 in
+    let rs = rows_cleared start c.reset_rows.new.self u c.reset_clauses.ensures.1 c.reset_rows.ensures.1.1 in
+    let h = counted_cleared f f.clauses u c.reset_clauses.ensures.0 in
     begun f start (cleared u) c.requires.0 c.requires.1.1 l rs h refl refl refl c.level.new.self c.level.ensures

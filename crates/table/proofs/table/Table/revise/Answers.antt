@@ -5,8 +5,8 @@ use Rattle.table.specs.Rows.{clause0}
 use Rattle.table.specs.Sound.{Midway, Revised}
 use Rattle.table.proofs.table.Table.revise.Goals as goal
 
-pub revise-entries-requires : goal.revise-entries-requires
-revise-entries-requires c =
+pub revise_entries-requires : goal.revise_entries-requires
+revise_entries-requires c =
     let f = c.args.f.now in
     let t = c.args.self.now in
     let made = c.requires.0 in
@@ -21,21 +21,21 @@ pub settle-requires : goal.settle-requires
 settle-requires c =
     let f = c.args.f.now in
     let t = c.args.self.now in
-    let u = c.revise-entries.new.self in
+    let u = c.revise_entries.new.self in
     let made = c.requires.0 in
     let l = c.requires.1.0 in
     let mid = c.requires.1.1.1 in
-    let e = c.revise-entries.ensures.same_cost in
+    let e = c.revise_entries.ensures.same_cost in
     let s = cost_small f t c.args.x c.args.i made l mid in (
       omega (arith, made.few_clauses),
       (
-        subst (λ cs. (get_or cs c.args.i clause0).count ≡ 0 → (get_or cs c.args.i clause0).weight ≤ u.cost) (sym c.revise-entries.ensures.same_clauses)
+        subst (λ cs. (get_or cs c.args.i clause0).count ≡ 0 → (get_or cs c.args.i clause0).weight ≤ u.cost) (sym c.revise_entries.ensures.same_clauses)
             (λ z. omega (arith, cost_room f t c.args.x c.args.i made l mid z)),
         (
           omega arith,
           (
-            subst (λ cs. (get_or cs c.args.i clause0).weight ≤ u.total) (sym c.revise-entries.ensures.same_clauses) (omega (arith, c.revise-entries.ensures.same_total, total_room f t c.args.x c.args.i made l mid)),
-            omega (arith, c.revise-entries.ensures.same_total, total_small f t c.args.x c.args.i made l mid),
+            subst (λ cs. (get_or cs c.args.i clause0).weight ≤ u.total) (sym c.revise_entries.ensures.same_clauses) (omega (arith, c.revise_entries.ensures.same_total, total_room f t c.args.x c.args.i made l mid)),
+            omega (arith, c.revise_entries.ensures.same_total, total_small f t c.args.x c.args.i made l mid),
           ),
         ),
       ),
@@ -49,18 +49,18 @@ returns-in-Some c =
     let l = c.requires.1.0 in
     let mid = c.requires.1.1.1 in
     record {
-      midway = subst (λ u. Midway f u c.args.x (c.args.i + 1)) (sym c.settle.ensures) (step_on f t c.args.x c.args.i made l mid c.revise-entries.new.self c.in-Some.count c.in-Some.ensures.1 c.revise-entries.ensures);
-      revised = subst (Revised (entries_of f c.args.i) c.args.x t) (sym c.settle.ensures) (revised_on f t c.args.x c.args.i made l mid c.revise-entries.new.self c.in-Some.count c.in-Some.ensures.1 c.revise-entries.ensures c.in-Some.ensures.0);
+      midway = subst (λ u. Midway f u c.args.x (c.args.i + 1)) (sym c.settle.ensures) (step_on f t c.args.x c.args.i made l mid c.revise_entries.new.self c.in-Some.count c.in-Some.ensures.1 c.revise_entries.ensures);
+      revised = subst (Revised (entries_of f c.args.i) c.args.x t) (sym c.settle.ensures) (revised_on f t c.args.x c.args.i made l mid c.revise_entries.new.self c.in-Some.count c.in-Some.ensures.1 c.revise_entries.ensures c.in-Some.ensures.0);
     }
 
-pub returns-in-default : goal.returns-in-default
-returns-in-default c =
+pub returns-in_default : goal.returns-in_default
+returns-in_default c =
     let f = c.args.f.now in
     let t = c.args.self.now in
     let made = c.requires.0 in
     let l = c.requires.1.0 in
     let mid = c.requires.1.1.1 in
     record {
-      midway = step_off f t c.args.x c.args.i made l mid c.in-default.ensures;
-      revised = revised_off f t c.args.x c.args.i made l mid c.in-default.ensures;
+      midway = step_off f t c.args.x c.args.i made l mid c.in_default.ensures;
+      revised = revised_off f t c.args.x c.args.i made l mid c.in_default.ensures;
     }

@@ -19,7 +19,7 @@ loop-e-preserved c =
     let new : ℕ → ℤ = λ y. score_at t y +ℤ turn c.args.before.weight c.args.after.weight (value_at t) (flip_at c.args.x (value_at t)) es y in
     elim c.if-e-x.branch [
       | then-e-x w ↦
-          subst (Partly c.args.mark (done es c.args.x (j + 1)) new t) (sym (w.self-is ∙ w.revise-entry.ensures))
+          subst (Partly c.args.mark (done es c.args.x (j + 1)) new t) (sym (w.self-is ∙ w.revise_entry.ensures))
           (entry_done es c.args.before c.args.after c.args.x c.args.mark t c.loop-e.self j c.loop-e-test.true c.requires.0.1.0 c.requires.1.0 c.requires.1.1 w.if-e-x.true c.loop-e.invariant (omega arith))
       | else-e-x w ↦
           subst (Partly c.args.mark (done es c.args.x (j + 1)) new t) (sym w.self-is)
@@ -32,8 +32,8 @@ returns c =
     turned c.args.es.now c.args.before.weight c.args.after.weight c.args.x c.args.mark c.args.self.now c.loop-e.self
     (subst (λ k. Partly c.args.mark (done c.args.es.now c.args.x k) (λ y. score_at c.args.self.now y +ℤ turn c.args.before.weight c.args.after.weight (value_at c.args.self.now) (flip_at c.args.x (value_at c.args.self.now)) c.args.es.now y) c.args.self.now c.loop-e.self) e c.loop-e.invariant)
 
-pub revise-entry-requires : goal.revise-entry-requires
-revise-entry-requires c =
+pub revise_entry-requires : goal.revise_entry-requires
+revise_entry-requires c =
     let es = c.args.es.now in
     let t = c.args.self.now in
     let j = c.loop-e.e-index in

@@ -6,8 +6,8 @@ use Rattle.table.proofs.Passing.{passing_yes, passing_no, passing_le}
 use Rattle.table.proofs.table.Table.unsatisfied_count.Goals as goal
 use Rattle.table.proofs.table.Table.unsatisfied_count.Goals.{then-self-i-eq0, else-self-i-eq0}
 
-pub overflow-add-found : goal.overflow-add-found
-overflow-add-found c =
+pub overflow_add-found : goal.overflow_add-found
+overflow_add-found c =
     let p : ℕ → Bool = λ k. eqb (count_at c.args.self.now k) 0 in
     let h : c.loop-i.found ≤ c.loop-i.i = omega (arith, c.loop-i.invariant, passing_le p c.loop-i.i) in
     let l : c.loop-i.i < 1025 = omega (arith, c.requires.1) in
