@@ -1,12 +1,12 @@
 -- New weights for clause after clause.
-use Rattle.std.proofs.Common.{◌≡◌, ℕ, zero, suc, ◌+◌, ◌*◌, ◌/◌, ◌^◌, ◌<◌, ◌≤◌, Bool, true, false, cond, not, eqb, ltb, sym, refl, ap, ◌∙◌, mul_assoc, suc-mul, mul_comm, div-mul-le_self, arith}
+use Rattle.std.proofs.Common.{◌≡◌, ℕ, zero, suc, ◌+◌, ◌*◌, ◌/◌, ◌^◌, ◌<◌, ◌≤◌, Bool, true, false, cond, eqb, ltb, sym, refl, ap, ◌∙◌, mul_assoc, suc-mul, mul_comm, div-mul-le_self, arith}
 use Rattle.std.proofs.lemmas.Bool.{eq-eqb, ne_eqb, cond-true, cond-false, lt-ltb, le-ltb}
 use Rattle.std.proofs.lemmas.Bool.Decides.{nat_tests}
 use Rattle.formula.specs.declared.formula.Formula.{Formula}
 use Rattle.formula.specs.Clauses.{sum_to}
 use Rattle.formula.proofs.Sums.{at_all, sum_to_same, sum_to_le, sum_to_add, sum_to_const}
 use Rattle.table.specs.declared.table.Table.{Table}
-use Rattle.table.specs.Rows.{turn, weight_at, count_at, gained, eased_at, reweighted}
+use Rattle.table.specs.Rows.{weight_at, count_at, gained, eased_at, reweighted}
 use Rattle.table.specs.Sound.{Sound, Reweighed, Weighing}
 
 -- a mix of two weightings weighs less than both together

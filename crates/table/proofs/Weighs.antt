@@ -1,5 +1,5 @@
 -- A whole weighing.
-use Rattle.std.proofs.Common.{◌≡◌, ℕ, zero, suc, ◌+◌, ◌*◌, ◌/◌, ◌^◌, ◌<◌, ◌≤◌, Bool, true, false, cond, eqb, ltb, leb, sym, refl, ap, ◌∙◌, subst, ap₂, mul_assoc, mul_comm, mul-zero, zero-mul, div-mul-le_self, arith}
+use Rattle.std.proofs.Common.{◌≡◌, ℕ, ◌+◌, ◌*◌, ◌/◌, ◌^◌, ◌<◌, ◌≤◌, Bool, true, false, cond, ltb, leb, sym, ap, ◌∙◌, ap₂, mul_assoc, mul_comm, mul-zero, zero-mul, div-mul-le_self, arith}
 use native.Mathlib.Nat.{zero-div}
 use Rattle.std.proofs.lemmas.Bool.{cond-true, cond-false, lt-ltb, le-ltb}
 use Rattle.formula.specs.declared.formula.Formula.{Formula}
@@ -8,8 +8,8 @@ use Rattle.formula.specs.Formulas.{Made}
 use Rattle.formula.proofs.Sums.{sum_to_same}
 use Rattle.table.specs.declared.table.Table.{Table}
 use Rattle.table.specs.Weights.{share_of}
-use Rattle.table.specs.Rows.{weight_at, count_at, gained, eased_at}
-use Rattle.table.specs.Sound.{Sound, Weighing, Weighed, weighed_at}
+use Rattle.table.specs.Rows.{weight_at, gained, eased_at}
+use Rattle.table.specs.Sound.{Sound, Weighing, Weighed}
 use Rattle.table.proofs.Weighings.{gained_light, share_le}
 
 no_share : (n s : ℕ) → 0 * s / (10 * n) ≡ 0

@@ -1,14 +1,13 @@
 -- The whole flip.
-use Rattle.std.proofs.Common.{◌≡◌, ℕ, suc, ◌+◌, ◌^◌, ◌<◌, ◌≤◌, Bool, true, false, cond, not, ◌&&◌, ◌||◌, eqb, ltb, List, [], ◌∷◌, pos, negsuc, ◌-ℤ◌, neg_ℤ, sym, refl, ap, ◌∙◌, subst, ap₂, add-one, arith}
+use Rattle.std.proofs.Common.{◌≡◌, ℕ, ◌+◌, ◌^◌, ◌<◌, ◌≤◌, Bool, true, false, cond, not, ◌&&◌, ◌||◌, eqb, ltb, pos, ◌-ℤ◌, neg_ℤ, sym, refl, ap, ◌∙◌, subst, ap₂, add-one, arith}
 use mathlib.Core.Path.{fun_ext}
 use Rattle.std.proofs.lemmas.Int.{ints}
-use Rattle.std.proofs.lemmas.Bool.{eq-eqb, ne_eqb, false≢true, or_parts, or_from, and_right, and_from, and_parts, cond-true, cond-false, lt-ltb, le-ltb}
+use Rattle.std.proofs.lemmas.Bool.{eq-eqb, ne_eqb, or_parts, or_from, and_right, and_from, and_parts, cond-true, cond-false, lt-ltb, le-ltb}
 use Rattle.std.proofs.lemmas.List.{get_or-set_same, get_or-set_other, length-set}
 use Rattle.std.proofs.lemmas.Bool.Decides.{nat_tests}
-use Rattle.formula.specs.declared.entry.Entry.{Entry}
 use Rattle.formula.specs.declared.formula.Formula.{Formula}
 use Rattle.formula.specs.Clauses.{sum_to, any_to, flip_at}
-use Rattle.formula.specs.Entries.{count, named_in, Signed}
+use Rattle.formula.specs.Entries.{count, named_in}
 use Rattle.formula.specs.Formulas.{Made, entries_of}
 use Rattle.formula.proofs.Sums.{at_all, or_assoc, any_to_same, any_to_none, any_to_gain}
 use Rattle.formula.proofs.Counts.{flipped_same, flipped_other}

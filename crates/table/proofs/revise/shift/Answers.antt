@@ -1,7 +1,5 @@
-use Rattle.std.proofs.Common.{◌≡◌, ℕ, ◌^◌, ◌<◌, not, ◌-ℤ◌, sym, ◌∙◌, subst, ap₂, arith, rules}
-use Rattle.std.proofs.lemmas.Int.{ints}
+use Rattle.std.proofs.Common.{◌≡◌, ◌^◌, ◌<◌, ◌-ℤ◌, sym, ◌∙◌, subst, ap₂, rules}
 use Rattle.table.proofs.Shares.{gain_within, read_sub}
-use Rattle.formula.specs.Entries.{count}
 use Rattle.table.specs.Rows.{gain_z, shift_z, Within}
 use Rattle.table.proofs.revise.shift.Goals as goal
 

@@ -1,4 +1,4 @@
-use Rattle.std.proofs.Common.{arith, rules}
+use Rattle.std.proofs.Common.{rules}
 use Rattle.table.proofs.Weighings.{share_le}
 use Rattle.table.proofs.weigh.share_of.Goals as goal
 

@@ -1,4 +1,4 @@
-use Rattle.std.proofs.Common.{◌≡◌, ◌+◌, ◌*◌, ◌≤◌, length, take, sym, ap, ◌∙◌, ap₂, arith, rules}
+use Rattle.std.proofs.Common.{◌+◌, take, sym, ap, ◌∙◌, ap₂, rules}
 use Rattle.std.proofs.lemmas.List.{take_all, length-take}
 use Rattle.formula.proofs.Counts.{count_more, count_le}
 use Rattle.formula.specs.Entries.{count}

@@ -1,8 +1,7 @@
-use Rattle.std.proofs.Common.{◌≡◌, ◌+◌, ◌^◌, ◌<◌, cond, eqb, get_or, sym, refl, ap, ◌∙◌, subst, arith}
+use Rattle.std.proofs.Common.{◌+◌, ◌^◌, ◌<◌, cond, subst}
 use Rattle.std.proofs.lemmas.Bool.{eq-eqb}
 use Rattle.formula.specs.Clauses.{sum_to}
 use Rattle.table.specs.Rows.{weight_at, count_at, reweighted}
-use Rattle.table.specs.Sound.{Reweighed}
 use Rattle.table.proofs.table.Table.gain_weight.Goals as goal
 
 pub reweigh-requires : goal.reweigh-requires

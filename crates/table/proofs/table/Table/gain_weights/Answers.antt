@@ -1,4 +1,4 @@
-use Rattle.std.proofs.Common.{◌≡◌, ◌+◌, ◌^◌, ◌<◌, cond, eqb, sym, refl, ap, ◌∙◌, subst, ap₂, arith}
+use Rattle.std.proofs.Common.{◌≡◌, ◌+◌, cond, eqb, ap₂, arith}
 use Rattle.formula.proofs.Sums.{sum_to_term}
 use Rattle.table.specs.Rows.{weight_at, gained}
 use Rattle.table.proofs.Weighings.{weighing_light, weighing_more, weighing_now, gained_light}

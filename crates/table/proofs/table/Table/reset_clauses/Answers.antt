@@ -1,4 +1,4 @@
-use Rattle.std.proofs.Common.{◌≡◌, refl, ap, ◌∙◌, arith}
+use Rattle.std.proofs.Common.{refl, arith}
 use Rattle.table.proofs.Begins.{counted_more}
 use Rattle.table.proofs.table.Table.reset_clauses.Goals as goal
 

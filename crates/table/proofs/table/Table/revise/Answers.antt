@@ -1,5 +1,5 @@
-use Rattle.std.proofs.Common.{◌≡◌, ◌+◌, ◌≤◌, get_or, sym, refl, ap, ◌∙◌, subst, arith}
-use Rattle.table.proofs.Step.{count_now, weight_small, short, next-within, cost_small, cost_room, total_room, total_small, step_off, revised_off, step_on, revised_on}
+use Rattle.std.proofs.Common.{◌≡◌, ◌+◌, ◌≤◌, get_or, sym, subst, arith}
+use Rattle.table.proofs.Step.{count_now, short, next-within, cost_small, cost_room, total_room, total_small, step_off, revised_off, step_on, revised_on}
 use Rattle.formula.specs.Formulas.{entries_of}
 use Rattle.table.specs.Rows.{clause0}
 use Rattle.table.specs.Sound.{Midway, Revised}
@@ -11,11 +11,12 @@ revise_entries-requires c =
     let t = c.args.self.now in
     let made = c.requires.0 in
     let l = c.requires.1.0 in
-    let mid = c.requires.1.1.1 in (
-      (short f t c.args.x c.args.i made l mid, (made.distinct c.args.i l, mid.sized.rows)),
-      (count_now f t c.args.x c.args.i made l mid, c.in-Some.ensures.1),
-      next-within f t c.args.x c.args.i made l mid,
-    )
+    let mid = c.requires.1.1.1 in
+    record {
+      es_len_bound = (short f t c.args.x c.args.i made l mid, (made.distinct c.args.i l, mid.sized.rows));
+      count_value = (count_now f t c.args.x c.args.i made l mid, c.in-Some.ensures.1);
+      by_index = next-within f t c.args.x c.args.i made l mid;
+    }
 
 pub settle-requires : goal.settle-requires
 settle-requires c =

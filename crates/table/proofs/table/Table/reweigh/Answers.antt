@@ -1,4 +1,4 @@
-use Rattle.std.proofs.Common.{◌≡◌, ◌+◌, ◌≤◌, get_or, sym, refl, ap, ◌∙◌, subst, arith}
+use Rattle.std.proofs.Common.{◌≡◌, ◌≤◌, get_or, sym, subst, arith}
 use Rattle.table.proofs.Reweighs.{short, count_still, next-within, cost_small, cost_room, total_room, total_small, reweighed}
 use Rattle.table.specs.Rows.{clause0}
 use Rattle.table.specs.Sound.{Reweighed}
@@ -11,11 +11,12 @@ revise_entries-requires c =
     let made = c.requires.0 in
     let l = c.requires.1.0 in
     let s = c.requires.1.1.0 in
-    let light = c.requires.1.1.1 in (
-      (short f t c.args.i c.args.weight made l s light, (made.distinct c.args.i l, s.sized.rows)),
-      (s.counts c.args.i l, count_still f t c.args.i c.args.weight made l s light),
-      next-within f t c.args.i c.args.weight made l s light,
-    )
+    let light = c.requires.1.1.1 in
+    record {
+      es_len_bound = (short f t c.args.i c.args.weight made l s light, (made.distinct c.args.i l, s.sized.rows));
+      count_value = (s.counts c.args.i l, count_still f t c.args.i c.args.weight made l s light);
+      by_index = next-within f t c.args.i c.args.weight made l s light;
+    }
 
 pub settle-requires : goal.settle-requires
 settle-requires c =

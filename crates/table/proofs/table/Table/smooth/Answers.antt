@@ -1,4 +1,4 @@
-use Rattle.std.proofs.Common.{◌≡◌, ◌+◌, ◌*◌, ◌/◌, refl, ap, ◌∙◌, arith}
+use Rattle.std.proofs.Common.{◌≡◌, ◌+◌, ◌*◌, ◌/◌, ap, ◌∙◌, arith}
 use Rattle.formula.proofs.Sums.{sum_to_term}
 use Rattle.table.proofs.Weighings.{weighing_light, weighing_more, weighing_now, eased_light}
 use Rattle.table.specs.Rows.{weight_at, eased_at}

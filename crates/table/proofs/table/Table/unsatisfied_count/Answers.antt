@@ -1,6 +1,5 @@
-use Rattle.std.proofs.Common.{◌≡◌, ℕ, ◌+◌, ◌<◌, ◌≤◌, Bool, eqb, length, get_or, sym, refl, ap, ◌∙◌, subst, arith, rules}
+use Rattle.std.proofs.Common.{ℕ, ◌+◌, ◌<◌, ◌≤◌, Bool, eqb, sym, ap, ◌∙◌, arith, rules}
 use Rattle.std.proofs.lemmas.Bool.{eq-eqb, ne_eqb}
-use Rattle.formula.specs.Occurrences.{passing}
 use Rattle.table.specs.Rows.{count_at}
 use Rattle.table.proofs.Passing.{passing_yes, passing_no, passing_le}
 use Rattle.table.proofs.table.Table.unsatisfied_count.Goals as goal
