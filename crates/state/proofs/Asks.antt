@@ -1,21 +1,18 @@
 -- What questions answer.
-use Rattle.std.proofs.Common.{◌≡◌, ℕ, zero, suc, ◌+◌, ◌-◌, ◌^◌, ◌<◌, ◌≤◌, Bool, true, false, cond, ◌⊎◌, List, [], ◌∷◌, ◌++◌, map, length, get_or, take, drop, ℤ, pos, ◌+ℤ◌, ◌-ℤ◌, ◌≤ℤ◌, sym, refl, ap, ◌∙◌, subst, ap₂, inl, inr, ⊎_elim, add-one, arith}
+use Rattle.std.proofs.Common.{◌≡◌, ℕ, ◌+◌, ◌-◌, ◌<◌, ◌≤◌, length, get_or, drop, pos, ◌+ℤ◌, ◌≤ℤ◌, sym, ap, ◌∙◌, subst, arith}
 use Rattle.std.proofs.lemmas.Int.{ints}
-use Rattle.std.proofs.lemmas.Bool.{cases_eq}
-use Rattle.std.proofs.lemmas.List.{get_or_append_left, get_or-append_right, get_or-map, get_or-take, get_or-drop, length-map, length-take-le, length-drop}
+use Rattle.std.proofs.lemmas.List.{get_or-map, get_or-take, get_or-drop, length-map, length-take-le, length-drop}
 use Rattle.formula.specs.declared.entry.Entry.{Entry}
 use Rattle.formula.specs.declared.formula.Formula.{Formula}
 use Rattle.formula.specs.declared.given.Given.{Given}
 use Rattle.formula.specs.declared.occurrences.Occurrences.{Occurrences}
-use Rattle.formula.specs.Clauses.{sum_to, flip_at}
-use Rattle.formula.specs.Entries.{bit, entry0, named_in}
-use Rattle.formula.specs.Formulas.{Made, entries_of, span_at}
-use Rattle.formula.specs.Occurrences.{passing}
+use Rattle.formula.specs.Clauses.{flip_at}
+use Rattle.formula.specs.Entries.{entry0}
+use Rattle.formula.specs.Formulas.{entries_of, span_at}
 use Rattle.formula.proofs.Counts.{named_at, named_small}
-use Rattle.formula.proofs.Lists.{length-passing, passing_room}
 use Rattle.table.specs.declared.table.Table.{Table}
 use Rattle.state.specs.Model.{Model, variables_in}
-use Rattle.table.specs.Rows.{cost_in, rules_of, row_at, value_at, weight_at}
+use Rattle.table.specs.Rows.{rules_of, row_at, value_at}
 use Rattle.state.specs.Standing.{model_in, Kept}
 use Rattle.table.proofs.Reweighs.{cost_le_sum}
 use Rattle.state.proofs.Models.{variables_are}

@@ -1,7 +1,6 @@
 -- What the rows say of the model.
-use Rattle.std.proofs.Common.{◌≡◌, ℕ, zero, suc, ◌+◌, ◌-◌, ◌*◌, ◌<◌, ◌≤◌, Bool, true, false, cond, not, ◌&&◌, ◌||◌, eqb, ltb, ◌⊎◌, List, [], ◌∷◌, ◌++◌, map, length, get_or, take, set, ℤ, pos, ◌-ℤ◌, sum, sym, refl, ap, ◌∙◌, subst, ap₂, inl, inr, ⊎_elim, add-one, arith}
-use Rattle.std.proofs.lemmas.Bool.{cases_eq, eq-eqb, ne_eqb}
-use Rattle.std.proofs.lemmas.List.{ext_get_or, get_or-map, get_or-take, length-map, length-take-le, take_all, take_more}
+use Rattle.std.proofs.Common.{◌≡◌, ℕ, zero, suc, ◌+◌, ◌<◌, ◌≤◌, Bool, true, false, cond, not, ◌&&◌, ◌||◌, eqb, ltb, List, [], ◌∷◌, ◌++◌, map, length, get_or, take, ℤ, pos, ◌-ℤ◌, sum, sym, refl, ap, ◌∙◌, ap₂, add-one, arith}
+use Rattle.std.proofs.lemmas.List.{get_or-map, get_or-take, length-map, length-take-le, take_all, take_more}
 use Rattle.std.proofs.ByRecursion.{All-get_or}
 use Rattle.std.proofs.lemmas.List.Sums.{sum_by_more}
 use Rattle.cnf.specs.Tables.{Assignment, Clause, satisfied, clauses_of}
@@ -15,13 +14,13 @@ use Rattle.formula.specs.Formulas.{entries_of, words_of}
 use Rattle.formula.specs.Occurrences.{passing}
 use Rattle.formula.specs.Meaning.{Same}
 use Rattle.formula.proofs.Sums.{or_none, or_assoc, sum_to_same, any_to_same}
-use Rattle.formula.proofs.Counts.{count_agree, flipped_same, flipped_other}
+use Rattle.formula.proofs.Counts.{count_agree}
 use Rattle.formula.proofs.Words.{same_meaning, passing_same}
 use Rattle.table.specs.declared.table.Row.{Row}
 use Rattle.table.specs.declared.table.ClauseRow.{ClauseRow}
 use Rattle.table.specs.declared.table.Table.{Table}
-use Rattle.state.specs.Model.{Model, assignment, stamp_of, weight_of, clause_of, cost_at, cost, score, total, together, neighbours, changed, unsatisfied_from, unsatisfied, variables_in}
-use Rattle.table.specs.Rows.{loss_at, cost_in, score_in, near_in, changed_in, rules_of, row0, clause0, row_at, value_at, stamp_at, weight_at, count_at}
+use Rattle.state.specs.Model.{Model, assignment, stamp_of, weight_of, cost_at, cost, score, total, together, neighbours, changed, unsatisfied_from, unsatisfied, variables_in}
+use Rattle.table.specs.Rows.{cost_in, near_in, rules_of, row0, clause0, row_at, value_at, stamp_at, weight_at, count_at}
 use Rattle.state.specs.Standing.{model_in, Kept}
 
 sum_to_front : (n : ℕ) (g : ℕ → ℕ) → sum_to (suc n) g ≡ g 0 + sum_to n (λ k. g (suc k))

@@ -1,14 +1,13 @@
 -- What each call does to the model.
-use Rattle.std.proofs.Common.{◌≡◌, ℕ, zero, suc, ◌+◌, ◌-◌, ◌*◌, ◌/◌, ◌^◌, ◌<◌, ◌≤◌, Bool, true, false, cond, not, eqb, ltb, leb, ◌⊎◌, List, [], ◌∷◌, ◌++◌, map, length, get_or, take, set, replicate, ℤ, Some, None, sum, Option, sym, refl, ap, ◌∙◌, subst, ap₂, inl, inr, ⊎_elim, mul-le-mul, mul-zero, mul-one, arith}
+use Rattle.std.proofs.Common.{◌≡◌, ℕ, zero, suc, ◌+◌, ◌*◌, ◌/◌, ◌<◌, ◌≤◌, Bool, true, false, cond, not, eqb, ltb, List, [], ◌∷◌, map, length, get_or, take, set, replicate, ℤ, Some, None, sum, sym, refl, ap, ◌∙◌, subst, ap₂, ⊎_elim, mul-le-mul, arith}
 use Rattle.std.proofs.lemmas.Bool.{cases_eq, eq-eqb, ne_eqb, eqb-false, not-true, cond-true, cond-false}
 use Rattle.std.proofs.lemmas.List.{ext_get_or, get_or-map, get_or-set_same, get_or-set_other, get_or-replicate, length-map, length-set, length-replicate}
 use Rattle.cnf.specs.Tables.{Assignment, satisfied, clauses_of}
 use Rattle.formula.specs.declared.formula.Formula.{Formula}
 use Rattle.formula.specs.declared.given.Given.{Given}
 use Rattle.formula.specs.declared.occurrences.Occurrences.{Occurrences}
-use Rattle.formula.specs.Clauses.{flip_at, sum_to}
-use Rattle.formula.specs.Entries.{count}
-use Rattle.formula.specs.Formulas.{entries_of, words_of, Holds}
+use Rattle.formula.specs.Clauses.{sum_to}
+use Rattle.formula.specs.Formulas.{words_of, Holds}
 use Rattle.formula.specs.Occurrences.{Occurs}
 use Rattle.formula.proofs.Sums.{sum_to_same, sum_to_add, sum_to_const}
 use Rattle.formula.proofs.Counts.{flipped_same, flipped_other}
@@ -17,9 +16,9 @@ use Rattle.table.specs.declared.table.ClauseRow.{ClauseRow}
 use Rattle.table.specs.declared.table.Table.{Table}
 use Rattle.state.specs.declared.search.Search.{Search}
 use Rattle.table.specs.Weights.{share_of}
-use Rattle.state.specs.Model.{Model, assignment, stamp_of, weight_of, total, flipped, gained_by, smoothed, weighed, ticked, begun, Paced}
-use Rattle.table.specs.Rows.{row0, clause0, row_at, value_at, stamp_at, weight_at, count_at, gained}
-use Rattle.table.specs.Sound.{Sized, Sound, Flipped, Weighed, weighed_at, Begun}
+use Rattle.state.specs.Model.{Model, assignment, flipped, gained_by, smoothed, weighed, begun, Paced}
+use Rattle.table.specs.Rows.{row0, clause0, value_at, weight_at, count_at, gained}
+use Rattle.table.specs.Sound.{Sound, Flipped, Weighed, weighed_at, Begun}
 use Rattle.state.specs.Standing.{model_in, Kept}
 use Rattle.state.specs.Searches.{has_formula}
 use Rattle.state.proofs.Facts.{stands}

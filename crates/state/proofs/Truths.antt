@@ -1,12 +1,12 @@
 -- What holds of every model.
-use Rattle.std.proofs.Common.{◌≡◌, ℕ, zero, suc, ◌+◌, ◌-◌, ◌*◌, ◌/◌, ◌<◌, ◌≤◌, Bool, true, false, cond, not, ◌&&◌, ◌||◌, eqb, ltb, leb, ◌⊎◌, List, [], ◌∷◌, ◌++◌, map, length, get_or, set, replicate, ℤ, pos, negsuc, ◌+ℤ◌, ◌-ℤ◌, ◌*ℤ◌, sum, sym, refl, ap, ◌∙◌, subst, ap₂, inl, inr, ⊎_elim, suc-mul, mul_comm, mul-one, mul-add, arith}
+use Rattle.std.proofs.Common.{◌≡◌, ℕ, zero, suc, ◌+◌, ◌*◌, ◌/◌, ◌<◌, ◌≤◌, Bool, true, false, cond, not, ◌&&◌, ◌||◌, eqb, ltb, List, [], ◌∷◌, length, get_or, replicate, ℤ, pos, negsuc, ◌+ℤ◌, ◌-ℤ◌, ◌*ℤ◌, sum, sym, refl, ap, ◌∙◌, ap₂, ⊎_elim, mul-one, mul-add, arith}
 use mathlib.Core.Path.{fun_ext}
 use Rattle.std.proofs.lemmas.Int.{ints}
-use Rattle.std.proofs.lemmas.Bool.{cases_eq, cases_Bool, cases_lt, eq-eqb, ne_eqb, or_parts, and_cases, and_from, and_left, and_right, false≢true, not_from_false}
-use Rattle.std.proofs.lemmas.List.{get_or-set_same, get_or-set_other, set-set, set-get_or, length-set, length-map, length-replicate, get_or-replicate, get_or_past}
+use Rattle.std.proofs.lemmas.Bool.{cases_eq, ne_eqb, or_parts, and_cases, and_left, and_right, false≢true, not_from_false}
+use Rattle.std.proofs.lemmas.List.{get_or-set_same, get_or-set_other, length-set, length-map, length-replicate, get_or-replicate}
 use Rattle.std.proofs.lemmas.List.Sums.{sum_by-cons}
 use Rattle.cnf.specs.Tables.{Assignment, holds, satisfied}
-use Rattle.formula.specs.Clauses.{variable_of, names, flip_at, sum_to, any_to}
+use Rattle.formula.specs.Clauses.{variable_of, names, flip_at, sum_to}
 use Rattle.formula.proofs.Sums.{sum_to_same, sum_to_const, any_to_same}
 use Rattle.formula.proofs.Counts.{flipped_same, flipped_other}
 use Rattle.formula.specs.declared.formula.Formula.{Formula}
@@ -16,8 +16,8 @@ use Rattle.table.specs.declared.table.Row.{Row}
 use Rattle.table.specs.declared.table.Table.{Table}
 use Rattle.state.specs.Standing.{model_in, Kept}
 use Rattle.table.specs.Weights.{share_of}
-use Rattle.state.specs.Model.{Model, assignment, stamp_of, cost_at, cost, score, total, together, neighbours, changed, flipped, gained_by, smoothed, weighed, ticked, begun, Paced}
-use Rattle.state.specs.Theorems.{Filled, Alike, FlipStaysNear, failing, shares, ScoreByClauses, FlipPaysScore, FlipUndone, SmoothingNeverRaises, Pace, Filling, Laws}
+use Rattle.state.specs.Model.{Model, assignment, stamp_of, cost_at, cost, total, together, neighbours, flipped, gained_by, smoothed, weighed}
+use Rattle.state.specs.Theorems.{Filled, FlipStaysNear, shares, FlipPaysScore, FlipUndone, SmoothingNeverRaises, Pace, Filling, Laws}
 use Rattle.state.proofs.Models.{sum_all, column_length, rows_enough, weights_length, clauses_length}
 use Rattle.state.proofs.Moves.{length-gained, cond_at, length-cond, smooth_le}
 

@@ -1,5 +1,5 @@
 -- Worked examples, computed from the definitions.
-use Rattle.std.specs.Prelude.{◌≡◌, ℕ, Bool, true, false, List, [], ◌∷◌, replicate, ℤ, pos, negsuc}
+use Rattle.std.specs.Prelude.{◌≡◌, true, [], ◌∷◌, replicate, pos, negsuc}
 use Rattle.state.specs.Model.{Model, cost, score, changed, smoothed, loaded, neighbours, unsatisfied, flipped}
 
 -- 1 2 0 -1 3 0 -2 -3 0 over 3 variables, all off

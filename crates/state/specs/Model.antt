@@ -1,6 +1,6 @@
 -- What calls give: a formula, an assignment, weights, stamps and the tick; and what follows from these.
 -- Variables and clauses go by their places: variable k and clause k have the place k − 1.
-use Rattle.std.specs.Prelude.{◌≡◌, ℕ, zero, suc, ◌+◌, ◌*◌, ◌/◌, ◌<◌, ◌≤◌, Bool, true, false, cond, not, ◌&&◌, ◌||◌, List, [], ◌∷◌, map, length, replicate, ℤ, pos, ◌-ℤ◌, sum, ◌==◌, nat_eq, nat_lt, slice_index, slice_index_or, slice_set}
+use Rattle.std.specs.Prelude.{ℕ, ◌+◌, ◌*◌, ◌≤◌, Bool, false, cond, not, ◌&&◌, ◌||◌, List, [], ◌∷◌, map, length, replicate, ℤ, pos, ◌-ℤ◌, sum, ◌==◌, nat_eq, nat_lt, slice_index, slice_index_or, slice_set}
 use Rattle.cnf.specs.Tables.{Assignment, satisfied, clauses_of}
 use Rattle.formula.specs.Clauses.{names, flip_at, any_to}
 use Rattle.formula.specs.Occurrences.{passing}

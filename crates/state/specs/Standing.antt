@@ -1,5 +1,5 @@
 -- What a search keeps, and the model that it stands for.
-use Rattle.std.specs.Prelude.{◌≡◌, ℕ, ◌<◌, ◌≤◌, List, map, length, take}
+use Rattle.std.specs.Prelude.{◌≡◌, ◌<◌, ◌≤◌, map, length, take}
 use Rattle.cnf.specs.Tables.{clauses_of}
 use Rattle.formula.specs.declared.formula.Formula.{Formula}
 use Rattle.formula.specs.declared.given.Given.{Given}

@@ -1,8 +1,8 @@
 -- What holds of every model, whatever its numbers.
-use Rattle.std.specs.Prelude.{◌≡◌, ℕ, ◌+◌, ◌*◌, ◌<◌, ◌≤◌, Bool, true, false, cond, not, List, [], ◌∷◌, length, ℤ, pos, ◌+ℤ◌, ◌-ℤ◌, ◌*ℤ◌, sum, ◌≢◌}
+use Rattle.std.specs.Prelude.{◌≡◌, ℕ, ◌<◌, ◌≤◌, false, cond, List, [], ◌∷◌, length, ℤ, pos, ◌+ℤ◌, ◌-ℤ◌, ◌*ℤ◌, sum, ◌≢◌}
 use Rattle.cnf.specs.Tables.{Assignment, satisfied}
 use Rattle.formula.specs.Clauses.{names, flip_at}
-use Rattle.state.specs.Model.{Model, assignment, stamp_of, weight_of, cost, score, total, neighbours, changed, flipped, weighed, ticked, smoothed, begun, Paced}
+use Rattle.state.specs.Model.{Model, assignment, stamp_of, cost, score, neighbours, changed, flipped, weighed, ticked, smoothed, begun, Paced}
 
 -- there is a value and a stamp for each variable, and a weight for each clause
 pub record Filled (m : Model) : Type 0 where

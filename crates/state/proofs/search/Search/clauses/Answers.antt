@@ -1,4 +1,3 @@
-use Rattle.std.proofs.Common.{◌≡◌, ◌<◌, sym, refl, ap, ◌∙◌, subst, arith, rules}
 use Rattle.state.proofs.Moves.{keeps}
 use Rattle.state.proofs.Moves.{some_clause}
 use Rattle.state.proofs.search.Search.clauses.Goals as goal

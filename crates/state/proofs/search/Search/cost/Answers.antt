@@ -1,11 +1,11 @@
-use Rattle.std.proofs.Common.{◌≡◌, ◌<◌, sym, refl, ap, ◌∙◌, subst, arith, rules}
+use Rattle.std.proofs.Common.{rules}
 use Rattle.state.proofs.Moves.{keeps}
 use Rattle.state.proofs.Models.{cost_is}
 use Rattle.state.proofs.Asks.{cost_small}
 use Rattle.state.proofs.search.Search.cost.Goals as goal
 
-pub overflow-cast-result : goal.overflow-cast-result
-overflow-cast-result c =
+pub overflow_cast-result : goal.overflow_cast-result
+overflow_cast-result c =
     let s = c.args.self.now in
     let h = cost_small s.given s.formula s.occurrences s.table (keeps s c.requires) in
     search rules

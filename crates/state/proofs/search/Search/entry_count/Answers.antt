@@ -1,10 +1,10 @@
-use Rattle.std.proofs.Common.{◌≡◌, ◌<◌, sym, refl, ap, ◌∙◌, subst, arith, rules}
+use Rattle.std.proofs.Common.{◌<◌, sym, arith, rules}
 use Rattle.state.proofs.Moves.{keeps}
 use Rattle.state.proofs.Asks.{span_in, variables_length}
 use Rattle.state.proofs.search.Search.entry_count.Goals as goal
 
-pub offset-bounds-self-clause : goal.offset-bounds-self-clause
-offset-bounds-self-clause c =
+pub offset_bounds-self-clause : goal.offset_bounds-self-clause
+offset_bounds-self-clause c =
     let k = keeps c.args.self.now c.requires.0 in
     let h : c.args.clause < 1024 = omega (arith, k.holds.made.few_clauses, k.holds.clauses, c.requires.1) in
     search rules
@@ -15,8 +15,8 @@ bounds-self-clause c =
     let h : c.args.clause < 1024 = omega (arith, k.holds.made.few_clauses, k.holds.clauses, c.requires.1) in
     search rules
 
-pub overflow-sub-result : goal.overflow-sub-result
-overflow-sub-result c =
+pub overflow_sub-result : goal.overflow_sub-result
+overflow_sub-result c =
     let s = c.args.self.now in
     let k = keeps s c.requires.0 in
     let h = span_in s.given s.formula s.occurrences s.table k c.args.clause (omega (arith, k.holds.clauses, c.requires.1)) in

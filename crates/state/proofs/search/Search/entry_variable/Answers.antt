@@ -1,11 +1,11 @@
-use Rattle.std.proofs.Common.{◌≡◌, ◌+◌, ◌<◌, get_or, sym, refl, ap, ◌∙◌, subst, arith, rules}
+use Rattle.std.proofs.Common.{◌+◌, ◌<◌, get_or, arith, rules}
 use Rattle.formula.specs.Formulas.{span0}
 use Rattle.state.proofs.Moves.{keeps}
 use Rattle.state.proofs.Asks.{span_in, variables_length, variable_is, variable_below}
 use Rattle.state.proofs.search.Search.entry_variable.Goals as goal
 
-pub offset-bounds-self-clause : goal.offset-bounds-self-clause
-offset-bounds-self-clause c =
+pub offset_bounds-self-clause : goal.offset_bounds-self-clause
+offset_bounds-self-clause c =
     let k = keeps c.args.self.now c.requires.0 in
     let h : c.args.clause < 1024 = omega (arith, k.holds.made.few_clauses, k.holds.clauses, c.requires.1.0) in
     search rules
@@ -16,8 +16,8 @@ bounds-self-clause c =
     let h : c.args.clause < 1024 = omega (arith, k.holds.made.few_clauses, k.holds.clauses, c.requires.1.0) in
     search rules
 
-pub overflow-add-result : goal.overflow-add-result
-overflow-add-result c =
+pub overflow_add-result : goal.overflow_add-result
+overflow_add-result c =
     let s = c.args.self.now in
     let k = keeps s c.requires.0 in
     let a = span_in s.given s.formula s.occurrences s.table k c.args.clause (omega (arith, k.holds.clauses, c.requires.1.0)) in
@@ -25,8 +25,8 @@ overflow-add-result c =
     let h : (get_or s.formula.spans c.args.clause span0).start + c.args.place < 4096 = omega (arith, c.requires.1.1) in
     search rules
 
-pub offset-bounds-self-span : goal.offset-bounds-self-span
-offset-bounds-self-span c =
+pub offset_bounds-self-span : goal.offset_bounds-self-span
+offset_bounds-self-span c =
     let s = c.args.self.now in
     let k = keeps s c.requires.0 in
     let a = span_in s.given s.formula s.occurrences s.table k c.args.clause (omega (arith, k.holds.clauses, c.requires.1.0)) in

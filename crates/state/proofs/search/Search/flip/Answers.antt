@@ -1,4 +1,4 @@
-use Rattle.std.proofs.Common.{◌≡◌, pos, sym, refl, ap, ◌∙◌, subst, arith}
+use Rattle.std.proofs.Common.{pos, sym, ap, ◌∙◌, subst}
 use Rattle.state.specs.Model.{flipped, cost}
 use Rattle.state.specs.Theorems.{Alike}
 use Rattle.state.proofs.Truths.{filled, pays, near}
@@ -12,19 +12,18 @@ flip-requires c =
     let k = keeps c.args.self.now c.requires.0 in
     (k.holds.made, (k.occurs, (c.requires.1.0, (c.requires.1.1, k.sound))))
 
-pub invariant-of-self : goal.invariant-of-self
-invariant-of-self c =
+pub invariant_of-self : goal.invariant_of-self
+invariant_of-self c =
     let s = c.args.self.now in
-    let h = stands s.given s.formula s.occurrences s.table s.standing in (
-      ∣ record {
+    let h = stands s.given s.formula s.occurrences s.table s.standing in record {
+      standing = ∣ record {
         words = h.words;
         entries = h.entries;
         lists = h.lists;
         rows = c.flip.ensures.sound.sized;
         kept = λ _. flip_kept s.given s.formula s.occurrences s.table c.flip.new.self c.args.x (keeps s c.requires.0) c.requires.1.0 c.requires.1.1 c.flip.ensures;
-      } ∣₁,
-      tt,
-    )
+      } ∣₁;
+    }
 
 pub returns : goal.returns
 returns c =

@@ -1,6 +1,5 @@
-use Rattle.std.proofs.Common.{◌≡◌, ◌<◌, length, sym, refl, ap, ◌∙◌, subst, arith}
+use Rattle.std.proofs.Common.{◌<◌, length, sym, ap, ◌∙◌, subst, arith}
 use Rattle.cnf.specs.Tables.{clauses_of}
-use Rattle.formula.specs.declared.formula.Formula.{Formula}
 use Rattle.formula.specs.Formulas.{Holds}
 use Rattle.formula.proofs.Split.{legal_words, clauses_legal}
 use Rattle.state.specs.Model.{begun, loaded}
@@ -28,20 +27,19 @@ restart-requires c =
     let s = c.args.self.now in
     (c.load.ensures.made, ((stands s.given s.formula s.occurrences s.table s.standing).rows, c.requires.1 ∙ sym c.load.ensures.variables))
 
-pub invariant-of-self : goal.invariant-of-self
-invariant-of-self c =
+pub invariant_of-self : goal.invariant_of-self
+invariant_of-self c =
     let f = c.load.new.self in
     let cs = clauses_of c.args.words.now in
-    let h = subst (λ v. Holds v cs f) (sym c.load.ensures.variables) c.load.ensures in (
-      ∣ record {
+    let h = subst (λ v. Holds v cs f) (sym c.load.ensures.variables) c.load.ensures in record {
+      standing = ∣ record {
         words = c.copy.ensures.1;
         entries = c.load.ensures.made.sized;
         lists = c.fill.ensures.rows;
         rows = c.restart.ensures.sound.sized;
         kept = λ _. begin_kept c.copy.new.self f c.fill.new.self c.restart.new.self c.args.start.now cs (ap clauses_of c.copy.ensures.0) h c.fill.ensures (c.requires.1 ∙ sym c.load.ensures.variables) c.restart.ensures;
-      } ∣₁,
-      tt,
-    )
+      } ∣₁;
+    }
 
 pub returns : goal.returns
 returns c =

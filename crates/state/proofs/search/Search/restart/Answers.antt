@@ -1,4 +1,4 @@
-use Rattle.std.proofs.Common.{◌≡◌, sym, refl, ap, ◌∙◌, subst, arith}
+use Rattle.std.proofs.Common.{refl}
 use Rattle.cnf.specs.Tables.{clauses_of}
 use Rattle.formula.specs.Formulas.{words_of}
 use Rattle.state.specs.Model.{restarted}
@@ -12,20 +12,19 @@ restart-requires c =
     let s = c.args.self.now in
     ((keeps s c.requires.0).holds.made, ((stands s.given s.formula s.occurrences s.table s.standing).rows, c.requires.1))
 
-pub invariant-of-self : goal.invariant-of-self
-invariant-of-self c =
+pub invariant_of-self : goal.invariant_of-self
+invariant_of-self c =
     let s = c.args.self.now in
     let h = stands s.given s.formula s.occurrences s.table s.standing in
-    let k = keeps s c.requires.0 in (
-      ∣ record {
+    let k = keeps s c.requires.0 in record {
+      standing = ∣ record {
         words = h.words;
         entries = h.entries;
         lists = h.lists;
         rows = c.restart.ensures.sound.sized;
         kept = λ _. begin_kept s.given s.formula s.occurrences c.restart.new.self c.args.start.now (clauses_of (words_of s.given)) refl k.holds k.occurs c.requires.1 c.restart.ensures;
-      } ∣₁,
-      tt,
-    )
+      } ∣₁;
+    }
 
 pub returns : goal.returns
 returns c =

@@ -1,4 +1,4 @@
-use Rattle.std.proofs.Common.{◌≡◌, ◌<◌, ℤ, pos, ◌+ℤ◌, ◌≤ℤ◌, sym, refl, ap, ◌∙◌, subst, arith, w32, w64, to_z, of_z, rules}
+use Rattle.std.proofs.Common.{◌≡◌, ◌<◌, ℤ, pos, ◌+ℤ◌, ◌≤ℤ◌, ◌∙◌, arith, w32, w64, to_z, of_z, rules}
 use Rattle.table.specs.Rows.{row_at}
 use Rattle.state.proofs.Moves.{keeps}
 use Rattle.std.proofs.lemmas.Int.{ints}
@@ -9,8 +9,8 @@ use Rattle.state.proofs.search.Search.score.Goals as goal
 small_same : (z : ℤ) → pos 0 ≤ℤ (z +ℤ pos 1024001024) → z ≤ℤ pos 1024001024 → to_z w32 (of_z w32 (to_z w64 (of_z w64 z))) ≡ z
 small_same z a b = omega (arith, ints)
 
-pub offset-bounds-self-x : goal.offset-bounds-self-x
-offset-bounds-self-x c =
+pub offset_bounds-self-x : goal.offset_bounds-self-x
+offset_bounds-self-x c =
     let h : c.args.x < 256 = omega (arith, (keeps c.args.self.now c.requires.0).holds.made.few_variables, c.requires.1) in
     search rules
 
@@ -19,8 +19,8 @@ bounds-self-x c =
     let h : c.args.x < 256 = omega (arith, (keeps c.args.self.now c.requires.0).holds.made.few_variables, c.requires.1) in
     search rules
 
-pub overflow-cast-result : goal.overflow-cast-result
-overflow-cast-result c =
+pub overflow_cast-result : goal.overflow_cast-result
+overflow_cast-result c =
     let s = c.args.self.now in
     let h = score_small s.given s.formula s.occurrences s.table (keeps s c.requires.0) c.args.x c.requires.1 in
     omega (arith, ints)

@@ -1,10 +1,10 @@
-use Rattle.std.proofs.Common.{◌≡◌, ◌<◌, sym, refl, ap, ◌∙◌, subst, arith, rules}
+use Rattle.std.proofs.Common.{rules}
 use Rattle.state.proofs.Moves.{keeps}
 use Rattle.state.proofs.Models.{total_is}
 use Rattle.state.proofs.search.Search.total.Goals as goal
 
-pub overflow-cast-result : goal.overflow-cast-result
-overflow-cast-result c =
+pub overflow_cast-result : goal.overflow_cast-result
+overflow_cast-result c =
     let h = (keeps c.args.self.now c.requires).limited in
     search rules
 

@@ -1,10 +1,10 @@
-use Rattle.std.proofs.Common.{◌≡◌, ◌<◌, length, get_or, sym, refl, ap, ◌∙◌, subst, arith}
+use Rattle.std.proofs.Common.{◌<◌, length, get_or, sym, ap, ◌∙◌, subst, arith}
 use Rattle.state.proofs.Moves.{keeps}
 use Rattle.state.proofs.Models.{unsatisfied_is}
 use Rattle.state.proofs.search.Search.unsatisfied_at.Goals as goal
 
-pub unsatisfied-at-requires : goal.unsatisfied-at-requires
-unsatisfied-at-requires c =
+pub unsatisfied_at-requires : goal.unsatisfied_at-requires
+unsatisfied_at-requires c =
     let s = c.args.self.now in
     let k = keeps s c.requires.0 in
     (k.sound.sized.clauses, (omega (arith, k.holds.made.few_clauses), subst (λ xs. c.args.place < length xs) (unsatisfied_is s.given s.formula s.occurrences s.table k) c.requires.1))
@@ -14,6 +14,6 @@ returns c =
     let s = c.args.self.now in
     let k = keeps s c.requires.0 in
     record {
-      is = c.unsatisfied-at.ensures.is ∙ sym (ap (λ xs. get_or xs c.args.place 0) (unsatisfied_is s.given s.formula s.occurrences s.table k));
-      below = omega (arith, c.unsatisfied-at.ensures.below, k.holds.clauses);
+      is = c.unsatisfied_at.ensures.is ∙ sym (ap (λ xs. get_or xs c.args.place 0) (unsatisfied_is s.given s.formula s.occurrences s.table k));
+      below = omega (arith, c.unsatisfied_at.ensures.below, k.holds.clauses);
     }

@@ -1,10 +1,10 @@
-use Rattle.std.proofs.Common.{◌≡◌, ◌<◌, sym, refl, ap, ◌∙◌, subst, arith, rules}
+use Rattle.std.proofs.Common.{◌<◌, sym, arith, rules}
 use Rattle.state.proofs.Moves.{keeps}
 use Rattle.state.proofs.Models.{value_is}
 use Rattle.state.proofs.search.Search.value.Goals as goal
 
-pub offset-bounds-self-x : goal.offset-bounds-self-x
-offset-bounds-self-x c =
+pub offset_bounds-self-x : goal.offset_bounds-self-x
+offset_bounds-self-x c =
     let h : c.args.x < 256 = omega (arith, (keeps c.args.self.now c.requires.0).holds.made.few_variables, c.requires.1) in
     search rules
 

@@ -1,4 +1,4 @@
-use Rattle.std.proofs.Common.{◌≡◌, ◌<◌, sym, refl, ap, ◌∙◌, subst, arith, rules}
+use Rattle.std.proofs.Common.{refl}
 use Rattle.state.proofs.Moves.{keeps}
 use Rattle.state.proofs.search.Search.variables.Goals as goal
 

@@ -1,4 +1,4 @@
-use Rattle.std.proofs.Common.{◌≡◌, ◌+◌, ◌≤◌, length, sym, refl, ap, ◌∙◌, subst, arith}
+use Rattle.std.proofs.Common.{◌+◌, ◌≤◌, length, sym, subst, arith}
 use Rattle.state.specs.Model.{weighed, total}
 use Rattle.state.proofs.Truths.{weighed-sum}
 use Rattle.state.specs.Searches.{model}
@@ -12,19 +12,18 @@ weigh-requires c =
     let k = keeps s c.requires.0 in
     (k.holds.made, (some_clause s.formula c.requires.0, (k.sound, omega (arith, k.limited))))
 
-pub invariant-of-self : goal.invariant-of-self
-invariant-of-self c =
+pub invariant_of-self : goal.invariant_of-self
+invariant_of-self c =
     let s = c.args.self.now in
-    let h = stands s.given s.formula s.occurrences s.table s.standing in (
-      ∣ record {
+    let h = stands s.given s.formula s.occurrences s.table s.standing in record {
+      standing = ∣ record {
         words = h.words;
         entries = h.entries;
         lists = h.lists;
         rows = c.weigh.ensures.sound.sized;
         kept = λ l. weigh_kept s.given s.formula s.occurrences s.table c.weigh.new.self (keeps s c.requires.0) l c.weigh.ensures c.requires.1.0 c.requires.1.1;
-      } ∣₁,
-      tt,
-    )
+      } ∣₁;
+    }
 
 pub returns : goal.returns
 returns c =

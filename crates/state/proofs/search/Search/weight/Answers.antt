@@ -1,10 +1,10 @@
-use Rattle.std.proofs.Common.{◌≡◌, ◌<◌, sym, refl, ap, ◌∙◌, subst, arith, rules}
+use Rattle.std.proofs.Common.{◌<◌, sym, arith, rules}
 use Rattle.state.proofs.Moves.{keeps}
-use Rattle.state.proofs.Models.{weight_is, clauses_length}
+use Rattle.state.proofs.Models.{weight_is}
 use Rattle.state.proofs.search.Search.weight.Goals as goal
 
-pub offset-bounds-self-clause : goal.offset-bounds-self-clause
-offset-bounds-self-clause c =
+pub offset_bounds-self-clause : goal.offset_bounds-self-clause
+offset_bounds-self-clause c =
     let s = c.args.self.now in
     let k = keeps s c.requires.0 in
     let h : c.args.clause < 1024 = omega (arith, k.holds.made.few_clauses, k.holds.clauses, c.requires.1) in
