@@ -1,11 +1,11 @@
 -- A run that is on its way: what is left of it ends as the whole.
-use Rattle.std.proofs.Common.{◌≡◌, ℕ, zero, suc, ◌+◌, ◌-◌, ◌<◌, ◌≤◌, Bool, true, false, cond, eqb, List, [], ◌∷◌, ◌++◌, length, take, drop, set, Some, None, Option, unwrap_or, sym, refl, ap, ◌∙◌, subst, true≢false, append_assoc, append-nil, arith}
-use Rattle.std.proofs.lemmas.List.{take_more_set, drop-set-lt, drop-drop, take-append-drop, length-append}
+use Rattle.std.proofs.Common.{◌≡◌, ℕ, zero, suc, ◌+◌, ◌-◌, ◌<◌, ◌≤◌, Bool, true, false, cond, List, [], ◌∷◌, ◌++◌, length, take, drop, set, Some, None, Option, unwrap_or, sym, refl, ap, ◌∙◌, append_assoc, append-nil, arith}
+use Rattle.std.proofs.lemmas.List.{take_more_set, drop-set-lt, drop-drop, take-append-drop}
 use Rattle.std.proofs.lemmas.List.Sums.{sum_by-cons}
-use Rattle.std.proofs.lemmas.Bool.{cond-true, cond-false, cond_both}
+use Rattle.std.proofs.lemmas.Bool.{cond_both}
 use Rattle.policy.specs.Levels.{Levels}
 use Rattle.policy.specs.Sources.{Meaning}
-use Rattle.state.specs.Model.{Model, Paced, flipped, weighed}
+use Rattle.state.specs.Model.{Model, Paced, weighed}
 use Rattle.state.specs.Theorems.{Filled}
 use Rattle.state.proofs.Truths.{pace, filling}
 use Rattle.engine.specs.declared.answers.Move.{Move}
@@ -14,7 +14,7 @@ use Rattle.engine.specs.declared.answers.Stepped.TheVariants as step
 use Rattle.engine.specs.declared.answers.Outcome.{Outcome}
 use Rattle.engine.specs.declared.answers.Outcome.TheVariants as outcome
 use Rattle.engine.specs.Picks.{pick, dive_pick}
-use Rattle.engine.specs.Steps.{none_left, drawn, After, stepped, greedy_or, dive_or_dry, offer, left, Run, run, ended, continued, ran_to, is_dive, dives_in, counts, trailed}
+use Rattle.engine.specs.Steps.{none_left, drawn, After, stepped, greedy_or, offer, left, Run, run, ended, continued, ran_to, is_dive, dives_in, counts, trailed}
 
 -- what a step does to the numbers that calls rely on
 pub record Sound (m : Model) (a : After) : Type 0 where

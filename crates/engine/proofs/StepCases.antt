@@ -1,6 +1,6 @@
 -- What a step does, by cases.
-use Rattle.std.proofs.Common.{◌≡◌, ℕ, ◌<◌, Bool, true, false, cond, not, eqb, length, Some, None, Ok, Err, Option, Result, sym, refl, ap, ◌∙◌, subst, true≢false, arith}
-use Rattle.std.proofs.lemmas.Bool.{cond-true, cond-false, ne_eqb, eq-eqb}
+use Rattle.std.proofs.Common.{◌≡◌, ℕ, ◌<◌, Bool, true, false, cond, length, Some, None, Ok, Err, Option, sym, refl, ap, ◌∙◌, subst, arith}
+use Rattle.std.proofs.lemmas.Bool.{cond-true, cond-false, ne_eqb}
 use Rattle.cnf.specs.declared.refusal.Refusal.{Refusal}
 use Rattle.policy.specs.Levels.{Levels}
 use Rattle.policy.specs.Sources.{Meaning}
@@ -12,7 +12,7 @@ use Rattle.state.specs.declared.search.Search.{Search}
 use Rattle.state.specs.Searches.{model, model_of, has_formula}
 use Rattle.engine.specs.declared.answers.Stepped.TheVariants as step
 use Rattle.engine.specs.Picks.{level_of, pick}
-use Rattle.engine.specs.Steps.{none_left, moved, after, flip_by, greedy_or, stepped, offer, left}
+use Rattle.engine.specs.Steps.{moved, flip_by, greedy_or, stepped, left}
 
 pub greedy_step : (f : Levels) (o : Option ℕ) (m : Model) (x : ℕ) → (length (unsatisfied m) ≡ 0 → ⊥) → pick f m ≡ Some x → stepped f o m ≡ flip_by (level_of f m x) x m
 greedy_step f o m x ne e = cond-false _ _ _ (ne_eqb (length (unsatisfied m)) 0 ne) ∙ ap (λ p. greedy_or f o p m) e
@@ -36,8 +36,8 @@ pub has_model : (s : Search) → has_formula s ≡ true → model_of s ≡ Some 
 has_model s h = cond-true _ _ _ h
 
 -- what an engine keeps true, by its model
-pub stays : (s : Search) (m : Model) → model_of s ≡ Some m → Paced m → 0 < m.variables → (has_formula s ≡ true → Paced (model s)) × ((has_formula s ≡ true → 0 < (model s).variables) × Unit {0})
-stays s m e p v = let k = known s m e in (λ _. subst Paced (sym k.1) p, (λ _. omega (arith, ap (λ x. x.variables) k.1), tt))
+pub stays : (s : Search) (m : Model) → model_of s ≡ Some m → Paced m → 0 < m.variables → (has_formula s ≡ true → Paced (model s)) × (has_formula s ≡ true → 0 < (model s).variables)
+stays s m e p v = let k = known s m e in (λ _. subst Paced (sym k.1) p, λ _. omega (arith, ap (λ x. x.variables) k.1))
 
 pub filled_search : (s : Search) → has_formula s ≡ true → Filled (model s)
 filled_search s h = filled s.given s.formula s.occurrences s.table (keeps s h)

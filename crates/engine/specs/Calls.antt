@@ -1,5 +1,5 @@
 -- What each call of the engine answers, and what the engine, the source and the trail hold then. An engine has a model, or none before its first load.
-use Rattle.std.specs.Prelude.{◌≡◌, ℕ, ◌+◌, ◌-◌, Bool, true, false, cond, ◌&&◌, List, [], ◌∷◌, length, ℤ, Some, None, Ok, Err, Option, Result, nat_le, nat_lt, slice_index}
+use Rattle.std.specs.Prelude.{ℕ, ◌+◌, ◌-◌, cond, ◌&&◌, List, length, ℤ, Some, None, Ok, Err, Option, Result, nat_le, nat_lt, slice_index}
 use Rattle.cnf.specs.declared.refusal.Check.{Check}
 use Rattle.cnf.specs.declared.refusal.Check.TheVariants.{HasFormula, InRange, TicksLeft, BudgetFits}
 use Rattle.cnf.specs.declared.refusal.Refusal.{Refusal}
@@ -7,7 +7,7 @@ use Rattle.cnf.specs.Refusals.{refused}
 use Rattle.cnf.specs.Scans.{and_then, within, table_checked, start_checked}
 use Rattle.policy.specs.Levels.{Levels}
 use Rattle.policy.specs.Sources.{Meaning}
-use Rattle.state.specs.Model.{Model, assignment, stamp_of, weight_of, cost, score, changed, unsatisfied, flipped, weighed, ticked, loaded, restarted}
+use Rattle.state.specs.Model.{Model, unsatisfied, flipped, weighed, ticked, loaded, restarted}
 use Rattle.engine.specs.declared.answers.Move.{Move}
 use Rattle.engine.specs.declared.answers.Stepped.{Stepped}
 use Rattle.engine.specs.declared.answers.Outcome.{Outcome}

@@ -1,5 +1,5 @@
 -- Which variable goes first, in a greedy step and in a dive.
-use Rattle.std.specs.Prelude.{ℕ, ◌<◌, Bool, true, false, cond, not, ◌&&◌, ◌||◌, List, [], ◌∷◌, length, Some, None, fold, Option, ◌==◌, int_lt, nat_lt}
+use Rattle.std.specs.Prelude.{ℕ, ◌<◌, Bool, cond, not, ◌&&◌, ◌||◌, List, length, Some, None, fold, Option, ◌==◌, int_lt, nat_lt}
 use Rattle.formula.specs.Occurrences.{passing}
 use Rattle.policy.specs.Levels.{Levels}
 use Rattle.state.specs.Model.{Model, score, changed, total, stamp_of, variables_in}

@@ -1,4 +1,4 @@
-use Rattle.std.proofs.Common.{◌≡◌, cond, sym, refl, ap, ◌∙◌}
+use Rattle.std.proofs.Common.{sym, ap, ◌∙◌}
 use Rattle.state.specs.Searches.{model}
 use Rattle.engine.specs.Picks.{admits, goes_before, considered}
 use Rattle.engine.proofs.Folds.{passing_more}

@@ -1,4 +1,4 @@
-use Rattle.std.proofs.Common.{◌≡◌, ◌<◌, ◌≤◌, length, take, None, sym, refl, ap, ◌∙◌, arith, rules}
+use Rattle.std.proofs.Common.{◌<◌, ◌≤◌, length, take, None, sym, ap, ◌∙◌, arith}
 use Rattle.std.proofs.lemmas.List.{take_all}
 use Rattle.std.proofs.lemmas.List.Sums.{fold_more}
 use Rattle.state.specs.Model.{variables_in}
@@ -11,11 +11,11 @@ loop-j-preserved c =
     let m = model c.args.search.now in
     let xs = variables_in m c.args.clause in
     let l : c.loop-j.j < length xs = omega arith in (
-      c.better-ranked-best.ensures.is
-          ∙ ap (λ b. challenged (outranks m) b c.entry-variable.result) c.loop-j.invariant.0
-          ∙ ap (challenged (outranks m) (best_of (outranks m) (take c.loop-j.j xs))) c.entry-variable.ensures.is
+      c.better_ranked-best.ensures.is
+          ∙ ap (λ b. challenged (outranks m) b c.entry_variable.result) c.loop-j.invariant.0
+          ∙ ap (challenged (outranks m) (best_of (outranks m) (take c.loop-j.j xs))) c.entry_variable.ensures.is
           ∙ sym (fold_more (challenged (outranks m)) None xs c.loop-j.j 0 l),
-      c.better-ranked-best.ensures.within,
+      c.better_ranked-best.ensures.within,
     )
 
 pub returns : goal.returns

@@ -1,13 +1,13 @@
-use Rattle.std.proofs.Common.{◌≡◌, ℕ, ◌+◌, ◌<◌, ◌≤◌, true, cond, length, Some, sym, refl, ap, ◌∙◌, subst, arith, rules}
+use Rattle.std.proofs.Common.{◌≡◌, ◌+◌, Some, sym, ap, ◌∙◌, subst, arith}
 use Rattle.policy.specs.Levels.{Levels}
 use Rattle.state.specs.Model.{Model, Paced}
-use Rattle.state.specs.Searches.{model, model_of, has_formula}
+use Rattle.state.specs.Searches.{model}
 use Rattle.state.proofs.Moves.{keeps}
 use Rattle.state.proofs.Truths.{filled}
 use Rattle.engine.specs.declared.answers.Stepped.TheVariants as step
-use Rattle.engine.specs.Steps.{stepped, offer, left, run, ran_to, is_dive}
+use Rattle.engine.specs.Steps.{stepped, offer, ran_to}
 use Rattle.engine.proofs.StepCases.{known, has_model}
-use Rattle.engine.proofs.Going.{Sound, step_sound, Going, going_none, going_more, Stops, stops_still, stops_at_end, Still, still}
+use Rattle.engine.proofs.Going.{step_sound, going_none, going_more, stops_still, stops_at_end, Still, still}
 use Rattle.engine.proofs.runs.run_on.Goals as goal
 
 pub loop-i-init : goal.loop-i-init
@@ -32,7 +32,7 @@ loop-i-preserved g c =
       omega (arith, v, c.loop-i.invariant.1),
       omega (arith, t, q.ticks, c.loop-i.invariant.2),
       subst Paced (sym k.1) q.paced,
-      going_more f u c.args.budget (model c.args.search.now) c.args.source.now c.args.trail.now c.loop-i.i m s c.loop-i.trail c.loop-i.dives c.loop-i-test.true c.loop-i.invariant.4 c.in-Moved.entry (model c.advance.new.search) c.advance.new.source (omega (arith, c.loop-i.auto.trail, c.loop-i-test.true, c.requires.1.1.1.1)) (sym c.in-Moved.ensures.answer) (sym k.1) (sym c.in-Moved.ensures.source) (c.loop-i.dives + c.dives-of-dives.result) (ap (λ n. c.loop-i.dives + n) c.dives-of-dives.ensures),
+      going_more f u c.args.budget (model c.args.search.now) c.args.source.now c.args.trail.now c.loop-i.i m s c.loop-i.trail c.loop-i.dives c.loop-i-test.true c.loop-i.invariant.4 c.in-Moved.entry (model c.advance.new.search) c.advance.new.source (omega (arith, c.loop-i.auto.trail, c.loop-i-test.true, c.requires.1.1.1.1)) (sym c.in-Moved.ensures.answer) (sym k.1) (sym c.in-Moved.ensures.source) (c.loop-i.dives + c.dives_of-dives.result) (ap (λ n. c.loop-i.dives + n) c.dives_of-dives.ensures),
     )
 
 pub returns-in-Found : goal.returns-in-Found
@@ -63,7 +63,7 @@ returns g c =
     let q = stops_at_end f u c.args.budget (model c.args.search.now) c.args.source.now c.args.trail.now c.loop-i.i m c.loop-i.source c.loop-i.trail c.loop-i.dives c.loop-i-test.false c.loop-i.invariant.4 in
     let n : c.args.budget ≡ c.loop-i.i = omega (arith, c.loop-i-test.false, c.loop-i.auto.i-end) in
     record {
-      answer = ap (λ o. (o, c.args.budget, c.loop-i.dives)) c.last-look.ensures ∙ ap (λ k. (ran_to m, k, c.loop-i.dives)) n ∙ q.answer;
+      answer = ap (λ o. (o, c.args.budget, c.loop-i.dives)) c.last_look.ensures ∙ ap (λ k. (ran_to m, k, c.loop-i.dives)) n ∙ q.answer;
       model = has_model c.loop-i.search c.loop-i.invariant.0 ∙ ap Some q.ends;
       source = q.source;
       trail = q.records;

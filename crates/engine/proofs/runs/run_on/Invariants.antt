@@ -1,4 +1,4 @@
-use Rattle.std.proofs.Common.{◌≡◌, ◌+◌, ◌-◌, ◌<◌, ◌≤◌, true}
+use Rattle.std.proofs.Common.{◌≡◌, ◌+◌, ◌<◌, ◌≤◌, true}
 use Rattle.state.specs.Model.{Paced}
 use Rattle.state.specs.Searches.{model, has_formula}
 use Rattle.engine.proofs.Going.{Going}

@@ -10,25 +10,26 @@ use Rattle.engine.proofs.Going.{step_sound}
 use Rattle.engine.proofs.StepCases.{no_model, has_model, stays, filled_search, passed}
 use Rattle.engine.proofs.engine.Engine.step.Goals as goal
 
-pub invariant-of-self : goal.invariant-of-self
-invariant-of-self g c =
+pub invariant_of-self : goal.invariant_of-self
+invariant_of-self g c =
     let f : Levels = g.P.Policy.level c.args.policy.now in
     let o = offer g.S.Source.meaning c.args.source.now in
     let m : Model = model c.args.self.now.search in
-    let h : has_formula c.args.self.now.search ≡ true = sym c.if-not-has-formula.ensures in
+    let h : has_formula c.args.self.now.search ≡ true = sym c.if-not-has_formula.ensures in
     let q = step_sound f o m (filled_search c.args.self.now.search h) (c.args.self.now.paced h) in
-    stays c.advance.new.search (stepped f o m).model c.advance.ensures.model q.paced (omega (arith, q.variables, c.args.self.now.some h))
+    let kept = stays c.advance.new.search (stepped f o m).model c.advance.ensures.model q.paced (omega (arith, q.variables, c.args.self.now.some h)) in
+    record { paced = kept.0; some = kept.1 }
 
-pub returns-then-not-has-formula : goal.returns-then-not-has-formula
+pub returns-then-not-has_formula : goal.returns-then-not-has_formula
 unfolding step_reply
-returns-then-not-has-formula g c =
-    let n = no_model c.args.self.now.search (sym c.if-not-has-formula.ensures) in
+returns-then-not-has_formula g c =
+    let n = no_model c.args.self.now.search (sym c.if-not-has_formula.ensures) in
     let e = ap (λ o. step_reply (g.P.Policy.level c.args.policy.now) g.S.Source.meaning o c.args.source.now) n in
     record { answer = ap Err c.refusal.ensures ∙ sym (ap (λ d. d.answer) e); model = n ∙ sym (ap (λ d. d.model) e); source = sym (ap (λ d. d.source) e) }
 
-pub returns-in-err-check-ticks : goal.returns-in-err-check-ticks
+pub returns-in_err-check_ticks : goal.returns-in_err-check_ticks
 unfolding step_reply
-returns-in-err-check-ticks g c = search rules
+returns-in_err-check_ticks g c = search rules
 
 pub returns : goal.returns
 unfolding step_reply
@@ -37,8 +38,8 @@ returns g c =
     let u = g.S.Source.meaning in
     let s = c.args.source.now in
     let m : Model = model c.args.self.now.search in
-    let n = has_model c.args.self.now.search (sym c.if-not-has-formula.ensures) in
-    let e = ap (λ o. step_reply f u o s) n ∙ passed (leb (m.tick + 1) 1000000) _ (refused TicksLeft 0) _ _ c.in-ok-check-ticks.ensures in
+    let n = has_model c.args.self.now.search (sym c.if-not-has_formula.ensures) in
+    let e = ap (λ o. step_reply f u o s) n ∙ passed (leb (m.tick + 1) 1000000) _ (refused TicksLeft 0) _ _ c.in_ok-check_ticks.ensures in
     record {
       answer = ap Ok c.advance.ensures.answer ∙ sym (ap (λ d. d.answer) e);
       model = c.advance.ensures.model ∙ sym (ap (λ d. d.model) e);
