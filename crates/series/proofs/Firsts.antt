@@ -1,12 +1,12 @@
 -- What is picked goes before all other candidates.
-use Rattle.std.proofs.Common.{◌≡◌, ℕ, zero, suc, ◌+◌, ◌<◌, ◌≤◌, Bool, true, false, cond, not, ◌&&◌, ◌||◌, eqb, ltb, ◌⊎◌, List, [], ◌∷◌, ℤ, pos, ◌≤ℤ◌, ◌<ℤ◌, Some, None, Option, sym, refl, ap, ◌∙◌, subst, inl, inr, ⊎_elim, true≢false, arith}
+use Rattle.std.proofs.Common.{◌≡◌, ℕ, zero, suc, ◌<◌, Bool, true, false, cond, not, eqb, ltb, ℤ, ◌≤ℤ◌, ◌<ℤ◌, Some, None, Option, sym, refl, ap, ◌∙◌, subst, inl, inr, ⊎_elim, arith}
 use lib.Signed.{lt_z}
 use Rattle.std.proofs.lemmas.Int.{ints}
 use Rattle.std.proofs.lemmas.Bool.{cases_Bool, cases_eq, or_cases, or_parts, and_parts, and_cases, ltb-true, ltb-false, eqb-true, eqb-false, not-true, not-false, lt-ltb, both_ways}
 use Rattle.formula.specs.Clauses.{names}
 use Rattle.formula.specs.Occurrences.{passing}
 use Rattle.policy.specs.Levels.{Levels}
-use Rattle.state.specs.Model.{Model, clause_of, score, stamp_of, variables_in}
+use Rattle.state.specs.Model.{Model, clause_of, score, stamp_of}
 use Rattle.engine.specs.Picks.{level_of, admits, outranks, goes_before, challenged, best_of, pick, dive_pick}
 use Rattle.series.specs.Laws.{RanksBefore, GoesBefore, Picked, NoneAdmitted, PicksTheFirst, Topmost, DivesToTheTop}
 use Rattle.engine.proofs.Folds.{passed_by}

@@ -1,5 +1,5 @@
 -- What holds of every history.
-use Rattle.std.proofs.Common.{◌≡◌, ℕ, suc, ◌+◌, ◌<◌, ◌≤◌, Bool, true, false, cond, List, [], ◌∷◌, ◌++◌, length, get_or, ℤ, pos, ◌+ℤ◌, ◌-ℤ◌, ◌<ℤ◌, Some, None, Option, sym, refl, ap, ◌∙◌, subst, arith}
+use Rattle.std.proofs.Common.{◌≡◌, ℕ, ◌+◌, ◌<◌, ◌≤◌, false, List, [], ◌∷◌, ◌++◌, length, get_or, pos, ◌+ℤ◌, ◌-ℤ◌, ◌<ℤ◌, Some, None, Option, sym, refl, ap, ◌∙◌, subst, arith}
 use Rattle.std.specs.List.{AllByRecursion}
 use Rattle.std.proofs.ByRecursion.{All-weaker}
 use Rattle.std.proofs.lemmas.Int.{ints}
@@ -8,10 +8,9 @@ use Rattle.state.specs.Model.{Model, cost, cost_at, score, changed, total, flipp
 use Rattle.state.specs.Theorems.{Filled}
 use Rattle.state.proofs.Truths.{filling, pays}
 use Rattle.engine.specs.declared.answers.Move.{Move}
-use Rattle.engine.specs.declared.answers.Stepped.TheVariants as step
 use Rattle.engine.specs.Picks.{level_of}
-use Rattle.engine.specs.Steps.{After, after, stepped}
-use Rattle.series.specs.Laws.{Event, begins, flips, weighs, steps, happened, holding, LawfulEvent, Greedy, Stretch, moves_at, moves_in, models_at, models_in, last_of, scores_of, Apart, Descends, FilledIn, Held, HistoriesHold}
+use Rattle.engine.specs.Steps.{After, stepped}
+use Rattle.series.specs.Laws.{Event, begins, flips, weighs, steps, happened, holding, LawfulEvent, Greedy, Stretch, moves_at, moves_in, models_at, models_in, last_of, scores_of, Apart, FilledIn, HistoriesHold}
 use Rattle.series.proofs.Firsts.{picks_the_first}
 use Rattle.engine.proofs.Going.{step_filled}
 use Rattle.series.proofs.Means.{View, found, greedy, dives, dries, view, step_means}

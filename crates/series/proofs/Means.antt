@@ -1,7 +1,7 @@
 -- What steps and runs say.
-use Rattle.std.proofs.Common.{◌≡◌, ℕ, zero, suc, ◌+◌, ◌<◌, ◌≤◌, Bool, true, false, cond, eqb, List, [], ◌∷◌, length, get_or, ℤ, pos, ◌≤ℤ◌, ◌<ℤ◌, Some, None, Option, sym, refl, ap, ◌∙◌, subst, ⊎_elim, true≢false, arith}
-use Rattle.std.proofs.lemmas.Int.{ints, by_lt_z}
-use Rattle.std.proofs.lemmas.Bool.{cond-true, cond-false, eqb-true, eqb-false, eq-eqb, ne_eqb}
+use Rattle.std.proofs.Common.{◌≡◌, ℕ, zero, suc, ◌+◌, ◌<◌, Bool, true, false, cond, List, [], ◌∷◌, length, get_or, ℤ, pos, ◌≤ℤ◌, Some, None, Option, sym, refl, ap, ◌∙◌, true≢false, arith}
+use Rattle.std.proofs.lemmas.Int.{by_lt_z}
+use Rattle.std.proofs.lemmas.Bool.{cond-true, eqb-true, eq-eqb}
 use Rattle.cnf.specs.Tables.{Assignment, satisfied}
 use Rattle.cnf.specs.Promises.{AllSatisfied}
 use Rattle.policy.specs.Levels.{Levels, LawfulLevels}
@@ -13,8 +13,8 @@ use Rattle.engine.specs.declared.answers.Stepped.TheVariants as step
 use Rattle.engine.specs.declared.answers.Outcome.{Outcome}
 use Rattle.engine.specs.declared.answers.Outcome.TheVariants as outcome
 use Rattle.engine.specs.Picks.{level_of, pick}
-use Rattle.engine.specs.Steps.{none_left, After, after, moved, flip_by, dive, dive_or_dry, greedy_or, stepped, offer, left, Run, run, ended, continued, ran_to}
-use Rattle.series.specs.Laws.{NoneAdmitted, Due, AllHold, StepMeans, RunMeans, PicksTheFirst}
+use Rattle.engine.specs.Steps.{none_left, After, after, moved, flip_by, dive, dive_or_dry, greedy_or, stepped, offer, left, Run, run, ended, continued}
+use Rattle.series.specs.Laws.{NoneAdmitted, AllHold, StepMeans, RunMeans}
 use Rattle.series.proofs.Firsts.{picks_the_first}
 
 -- none is unsatisfied exactly when all are satisfied

@@ -1,5 +1,5 @@
 -- What the parts of a series' call do not depend on.
-use Rattle.std.proofs.Common.{◌≡◌, ℕ, List, [], ℤ, Some, None, Option, sym, refl, ap, ◌∙◌}
+use Rattle.std.proofs.Common.{◌≡◌, ℕ, List, [], ℤ, Some, None, Option, refl}
 use Rattle.policy.specs.Levels.{Levels}
 use Rattle.policy.specs.Sources.{Meaning}
 use Rattle.state.specs.Model.{Model}

@@ -1,6 +1,6 @@
 -- A series that is on its way: what is left of it ends as the whole.
-use Rattle.std.proofs.Common.{◌≡◌, ℕ, ◌+◌, ◌<◌, ◌≤◌, List, [], ◌∷◌, ◌++◌, length, get_or, take, drop, set, ℤ, Option, Result, sym, refl, ap, ◌∙◌, subst, append_assoc, append-nil, arith}
-use Rattle.std.proofs.lemmas.List.{at_drop_more, drop_all, take_more_set, drop-set-lt, drop-drop, take-append-drop, length-append}
+use Rattle.std.proofs.Common.{◌≡◌, ℕ, ◌+◌, ◌<◌, ◌≤◌, List, [], ◌∷◌, ◌++◌, length, get_or, take, drop, set, ℤ, Option, Result, sym, refl, ap, ◌∙◌, append_assoc, append-nil, arith}
+use Rattle.std.proofs.lemmas.List.{at_drop_more, drop_all, take_more_set, drop-set-lt, drop-drop, take-append-drop}
 use Rattle.cnf.specs.declared.refusal.Refusal.{Refusal}
 use Rattle.policy.specs.Levels.{Levels}
 use Rattle.policy.specs.Sources.{Meaning}

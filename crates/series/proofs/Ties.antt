@@ -3,7 +3,7 @@ use Rattle.std.proofs.Common.{◌≡◌, ℕ, zero, suc, ◌+◌, ◌-◌, Bool,
 use Rattle.std.specs.List.{AllByRecursion}
 use Rattle.std.proofs.ByRecursion.{All-append}
 use Rattle.std.proofs.lemmas.Bool.{eqb-true}
-use Rattle.cnf.specs.declared.refusal.Check.TheVariants.{HasFormula, TicksLeft, StartValues}
+use Rattle.cnf.specs.declared.refusal.Check.TheVariants.{StartValues}
 use Rattle.cnf.specs.declared.refusal.Refusal.{Refusal}
 use Rattle.cnf.specs.Refusals.{refused}
 use Rattle.cnf.specs.Tables.{clauses_of}
@@ -17,9 +17,9 @@ use Rattle.engine.specs.declared.answers.Stepped.TheVariants as step
 use Rattle.series.specs.declared.call.Call.{Call}
 use Rattle.series.specs.declared.call.Call.TheVariants as call
 use Rattle.engine.specs.Steps.{stepped, offer, left, Run, run, continued}
-use Rattle.engine.specs.Calls.{Reply, replied, in_range, ticks_left, run_checked, load_reply, restart_reply, flip_reply, weigh_reply, step_reply, run_reply, run_with as ran_with}
+use Rattle.engine.specs.Calls.{replied, in_range, ticks_left, run_checked, flip_reply, weigh_reply, step_reply, run_reply, run_with as ran_with}
 use Rattle.series.specs.Laws.{Event, begins, flips, weighs, steps, happened, holding, LawfulEvent}
-use Rattle.series.specs.Series.{lent, look, accepted, told, load_with, restart_events, restart_with, step_events, onwards, run_events, run_events_of, step_with, run_with, perform, Went, went}
+use Rattle.series.specs.Series.{lent, look, accepted, load_with, restart_with, step_events, onwards, run_events, run_events_of, step_with, run_with, perform, went}
 use Rattle.engine.proofs.Going.{Still, still}
 
 pub holding_append : (es fs : List Event) (o : Option Model) → holding (es ++ fs) o ≡ holding fs (holding es o)

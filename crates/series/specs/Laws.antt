@@ -1,18 +1,18 @@
 -- What picks, steps, runs and whole histories mean, in the words of the subject.
-use Rattle.std.specs.Prelude.{◌≡◌, ℕ, ◌+◌, ◌<◌, ◌≤◌, Bool, true, false, ◌⊎◌, List, [], ◌∷◌, ◌++◌, length, ℤ, pos, ◌+ℤ◌, ◌≤ℤ◌, ◌<ℤ◌, Some, None, Option, ◌≢◌}
+use Rattle.std.specs.Prelude.{◌≡◌, ℕ, ◌<◌, ◌≤◌, true, false, ◌⊎◌, List, [], ◌∷◌, ◌++◌, length, ℤ, pos, ◌+ℤ◌, ◌≤ℤ◌, ◌<ℤ◌, Some, None, Option, ◌≢◌}
 use Rattle.std.specs.List.{AllByRecursion}
 use Rattle.cnf.specs.Promises.{AllSatisfied}
 use Rattle.formula.specs.Clauses.{names}
 use Rattle.policy.specs.Levels.{Levels, LawfulLevels}
 use Rattle.policy.specs.Sources.{Meaning}
-use Rattle.state.specs.Model.{Model, assignment, clause_of, cost, score, changed, stamp_of, unsatisfied, begun, flipped, weighed, ticked}
+use Rattle.state.specs.Model.{Model, assignment, clause_of, cost, score, changed, stamp_of, begun, flipped, weighed, ticked}
 use Rattle.state.specs.Theorems.{Filled}
 use Rattle.engine.specs.declared.answers.Move.{Move}
 use Rattle.engine.specs.declared.answers.Stepped.{Stepped}
 use Rattle.engine.specs.declared.answers.Stepped.TheVariants as step
 use Rattle.engine.specs.declared.answers.Outcome.TheVariants as outcome
 use Rattle.engine.specs.Picks.{level_of, pick, dive_pick}
-use Rattle.engine.specs.Steps.{After, stepped, dive, dived, run}
+use Rattle.engine.specs.Steps.{After, stepped, dive, run}
 
 -- a greater score; or the same, and a lesser stamp; or the same too, and a lesser number
 abbrev pub RanksBefore : Model → ℕ → ℕ → Type 0

@@ -1,5 +1,5 @@
 -- What a series of calls comes to: each answer, what the engine, the sources and the trail hold then, and the history that it makes.
-use Rattle.std.specs.Prelude.{◌≡◌, ℕ, zero, suc, ◌-◌, Bool, true, false, cond, ◌&&◌, List, [], ◌∷◌, ◌++◌, length, take, drop, ℤ, Some, None, Ok, Err, Option, Result, nat_le, slice_set}
+use Rattle.std.specs.Prelude.{ℕ, zero, suc, ◌-◌, cond, ◌&&◌, List, [], ◌∷◌, ◌++◌, length, take, drop, ℤ, Some, None, Ok, Err, Option, Result, nat_le, slice_set}
 use Rattle.cnf.specs.declared.refusal.Check.TheVariants.{InRange}
 use Rattle.cnf.specs.declared.refusal.Refusal.{Refusal}
 use Rattle.cnf.specs.Tables.{clauses_of}
@@ -18,7 +18,7 @@ use Rattle.series.specs.declared.call.Call.TheVariants as call
 use Rattle.series.specs.declared.call.Answer.{Answer}
 use Rattle.series.specs.declared.call.Answer.TheVariants as answer
 use Rattle.engine.specs.Steps.{stepped, offer, left}
-use Rattle.engine.specs.Calls.{Reply, refusing, load_reply, restart_reply, flip_reply, weigh_reply, Drawing, step_reply, run_reply, run_trail, of_variable, of_clause, of_model, tick_of, unsatisfied_count, unsatisfied_at}
+use Rattle.engine.specs.Calls.{Reply, refusing, load_reply, restart_reply, flip_reply, weigh_reply, step_reply, run_reply, run_trail, of_variable, of_clause, of_model, tick_of, unsatisfied_count, unsatisfied_at}
 use Rattle.series.specs.Laws.{Event, begins, flips, weighs, steps}
 
 -- the lent part, if there is one from and up to these places

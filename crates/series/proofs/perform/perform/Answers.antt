@@ -1,8 +1,7 @@
-use Rattle.std.proofs.Common.{◌≡◌, List, [], sym, refl, ap, ◌∙◌}
-use Rattle.series.specs.declared.call.Call.{Call}
+use Rattle.std.proofs.Common.{sym, ap, ◌∙◌}
 use Rattle.series.specs.declared.call.Answer.TheVariants as answer
 use Rattle.engine.specs.Engines.{held}
-use Rattle.series.specs.Series.{Performed, lent, look, given, perform as performed}
+use Rattle.series.specs.Series.{lent, look, given, perform as performed}
 use Rattle.series.proofs.Performs.{load_alike, restart_alike, step_untrailed}
 use Rattle.series.proofs.perform.perform.Goals as goal
 
@@ -16,7 +15,7 @@ returns-in-Load g c =
     let trail = c.args.trail.now in
     let e = ap (λ k. performed lv u c.args.words.now c.args.starts.now c.args.policies.now k o ss trail) c.in-Load.is in
     let a = load_alike o ss trail c.in-Load.variables (lent c.args.words.now c.in-Load.part) (lent c.args.starts.now c.in-Load.start) in
-    record { reply = c.load-from.ensures.reply ∙ a.reply ∙ sym (ap (λ p. p.reply) e); model = c.load-from.ensures.model ∙ a.model ∙ sym (ap (λ p. p.model) e); sources = a.sources ∙ sym (ap (λ p. p.sources) e); trail = a.records ∙ sym (ap (λ p. p.trail) e) }
+    record { reply = c.load_from.ensures.reply ∙ a.reply ∙ sym (ap (λ p. p.reply) e); model = c.load_from.ensures.model ∙ a.model ∙ sym (ap (λ p. p.model) e); sources = a.sources ∙ sym (ap (λ p. p.sources) e); trail = a.records ∙ sym (ap (λ p. p.trail) e) }
 
 pub returns-in-Restart : goal.returns-in-Restart
 unfolding performed
@@ -28,7 +27,7 @@ returns-in-Restart g c =
     let trail = c.args.trail.now in
     let e = ap (λ k. performed lv u c.args.words.now c.args.starts.now c.args.policies.now k o ss trail) c.in-Restart.is in
     let a = restart_alike o ss trail (lent c.args.starts.now c.in-Restart.start) in
-    record { reply = c.restart-from.ensures.reply ∙ a.reply ∙ sym (ap (λ p. p.reply) e); model = c.restart-from.ensures.model ∙ a.model ∙ sym (ap (λ p. p.model) e); sources = a.sources ∙ sym (ap (λ p. p.sources) e); trail = a.records ∙ sym (ap (λ p. p.trail) e) }
+    record { reply = c.restart_from.ensures.reply ∙ a.reply ∙ sym (ap (λ p. p.reply) e); model = c.restart_from.ensures.model ∙ a.model ∙ sym (ap (λ p. p.model) e); sources = a.sources ∙ sym (ap (λ p. p.sources) e); trail = a.records ∙ sym (ap (λ p. p.trail) e) }
 
 pub returns-in-Flip : goal.returns-in-Flip
 unfolding performed
@@ -39,7 +38,7 @@ returns-in-Flip g c =
     let ss = c.args.sources.now in
     let trail = c.args.trail.now in
     let e = ap (λ k. performed lv u c.args.words.now c.args.starts.now c.args.policies.now k o ss trail) c.in-Flip.is in
-    record { reply = c.done-answer.ensures ∙ ap (given (λ _. answer.Done)) c.flip.ensures.answer ∙ sym (ap (λ p. p.reply) e); model = c.flip.ensures.model ∙ sym (ap (λ p. p.model) e); sources = sym (ap (λ p. p.sources) e); trail = sym (ap (λ p. p.trail) e) }
+    record { reply = c.done_answer.ensures ∙ ap (given (λ _. answer.Done)) c.flip.ensures.answer ∙ sym (ap (λ p. p.reply) e); model = c.flip.ensures.model ∙ sym (ap (λ p. p.model) e); sources = sym (ap (λ p. p.sources) e); trail = sym (ap (λ p. p.trail) e) }
 
 pub returns-in-Weigh : goal.returns-in-Weigh
 unfolding performed
@@ -50,7 +49,7 @@ returns-in-Weigh g c =
     let ss = c.args.sources.now in
     let trail = c.args.trail.now in
     let e = ap (λ k. performed lv u c.args.words.now c.args.starts.now c.args.policies.now k o ss trail) c.in-Weigh.is in
-    record { reply = c.done-answer-in-Weigh.ensures ∙ ap (given (λ _. answer.Done)) c.weigh.ensures.answer ∙ sym (ap (λ p. p.reply) e); model = c.weigh.ensures.model ∙ sym (ap (λ p. p.model) e); sources = sym (ap (λ p. p.sources) e); trail = sym (ap (λ p. p.trail) e) }
+    record { reply = c.done_answer-in-Weigh.ensures ∙ ap (given (λ _. answer.Done)) c.weigh.ensures.answer ∙ sym (ap (λ p. p.reply) e); model = c.weigh.ensures.model ∙ sym (ap (λ p. p.model) e); sources = sym (ap (λ p. p.sources) e); trail = sym (ap (λ p. p.trail) e) }
 
 pub returns-in-Step : goal.returns-in-Step
 unfolding performed
@@ -62,7 +61,7 @@ returns-in-Step g c =
     let trail = c.args.trail.now in
     let e = ap (λ k. performed lv u c.args.words.now c.args.starts.now c.args.policies.now k o ss trail) c.in-Step.is in
     let a = step_untrailed lv u (look c.args.policies.now c.in-Step.policy) (look ss c.in-Step.source) c.in-Step.source o ss trail in
-    record { reply = c.step-with.ensures.reply ∙ a.reply ∙ sym (ap (λ p. p.reply) e); model = c.step-with.ensures.model ∙ a.model ∙ sym (ap (λ p. p.model) e); sources = c.step-with.ensures.sources ∙ a.sources ∙ sym (ap (λ p. p.sources) e); trail = a.records ∙ sym (ap (λ p. p.trail) e) }
+    record { reply = c.step_with.ensures.reply ∙ a.reply ∙ sym (ap (λ p. p.reply) e); model = c.step_with.ensures.model ∙ a.model ∙ sym (ap (λ p. p.model) e); sources = c.step_with.ensures.sources ∙ a.sources ∙ sym (ap (λ p. p.sources) e); trail = a.records ∙ sym (ap (λ p. p.trail) e) }
 
 pub returns-in-Run : goal.returns-in-Run
 unfolding performed
@@ -73,7 +72,7 @@ returns-in-Run g c =
     let ss = c.args.sources.now in
     let trail = c.args.trail.now in
     let e = ap (λ k. performed lv u c.args.words.now c.args.starts.now c.args.policies.now k o ss trail) c.in-Run.is in
-    record { reply = c.run-with.ensures.reply ∙ sym (ap (λ p. p.reply) e); model = c.run-with.ensures.model ∙ sym (ap (λ p. p.model) e); sources = c.run-with.ensures.sources ∙ sym (ap (λ p. p.sources) e); trail = c.run-with.ensures.trail ∙ sym (ap (λ p. p.trail) e) }
+    record { reply = c.run_with.ensures.reply ∙ sym (ap (λ p. p.reply) e); model = c.run_with.ensures.model ∙ sym (ap (λ p. p.model) e); sources = c.run_with.ensures.sources ∙ sym (ap (λ p. p.sources) e); trail = c.run_with.ensures.trail ∙ sym (ap (λ p. p.trail) e) }
 
 pub returns-in-Ask : goal.returns-in-Ask
 unfolding performed
