@@ -1,7 +1,7 @@
 -- Examples that were worked out by hand, computed from the definitions.
-use Rattle.std.specs.Prelude.{◌≡◌, Bool, true, false, List, [], ◌∷◌, map, ℕ, ℤ, pos, negsuc, replicate}
+use Rattle.std.specs.Prelude.{◌≡◌, true, false, [], ◌∷◌, map, ℕ, ℤ, pos, negsuc, replicate}
 use Rattle.policy.specs.Policies.{cca}
-use Rattle.policy.specs.Generators.{generator, holding, next}
+use Rattle.policy.specs.Generators.{generator, holding}
 use Rattle.policy.specs.Sources.{drawn}
 use Rattle.policy.specs.declared.generator.Generator.{Generator}
 use Rattle.state.specs.Model.{Model, cost, score, changed, loaded, smoothed}
