@@ -1,8 +1,8 @@
 -- The bits of a word.
-use Rattle.std.proofs.Common.{◌≡◌, ℕ, zero, suc, ◌+◌, ◌-◌, ◌*◌, ◌/◌, ◌%◌, ◌^◌, ◌<◌, ◌≤◌, Bool, true, false, cond, not, eqb, sym, refl, ap, ◌∙◌, subst, ap₂, ⊎_elim, arith, shr-shr}
+use Rattle.std.proofs.Common.{◌≡◌, ℕ, zero, suc, ◌+◌, ◌-◌, ◌*◌, ◌/◌, ◌%◌, ◌^◌, ◌<◌, ◌≤◌, true, false, not, eqb, sym, refl, ap, ◌∙◌, arith, shr-shr}
 use native.Mathlib.Nat.{zero-div}
 use lib.Bits.{bit_xor, xor_shr, xor_mod, xor_zero_r, shifted_half, shifted_even}
-use lib.Count.{count_trailing_zeros, under, trailing_le}
+use lib.Count.{count_trailing_zeros, under}
 use lib.Pow.{shl-shr}
 use Rattle.bitset.specs.Sets.{bit_at}
 

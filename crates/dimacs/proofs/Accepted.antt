@@ -1,25 +1,20 @@
 -- What the parts of an accepted text are.
-use Rattle.std.proofs.Common.{◌≡◌, ℕ, zero, suc, ◌+◌, ◌-◌, ◌<◌, ◌≤◌, Bool, true, false, cond, not, ◌&&◌, ◌||◌, eqb, ltb, leb, List, [], ◌∷◌, ◌++◌, length, take, drop, ℤ, pos, negsuc, nat_abs, Some, None, Ok, Err, Option, Result, sym, refl, ap, ◌∙◌, subst, true≢false, arith}
-use Rattle.std.proofs.lemmas.Bool.{cond-true, cond-false, le-leb, lt-leb, leb-true, leb-false, ltb-false, le-ltb, and_from, and_parts, or_parts, not-false, eqb-true, eq-eqb, cases_Bool}
-use Rattle.cnf.specs.declared.refusal.Check.{Check}
-use Rattle.cnf.specs.declared.refusal.Check.TheVariants.{TextLength, ProblemLine, Limits, ClauseCount, WordsRoom}
+use Rattle.std.proofs.Common.{◌≡◌, ℕ, ◌+◌, ◌≤◌, Bool, true, false, cond, not, ◌||◌, eqb, ltb, leb, List, [], ◌∷◌, length, ℤ, pos, negsuc, Some, None, Ok, Err, Option, Result, sym, refl, ap, ◌∙◌, subst, arith}
+use Rattle.std.proofs.lemmas.Bool.{leb-true, ltb-false, and_parts, or_parts, not-false, eqb-true}
+use Rattle.cnf.specs.declared.refusal.Check.TheVariants.{TextLength, ProblemLine, Limits, ClauseCount}
 use Rattle.cnf.specs.declared.tally.Tally.{Tally}
 use Rattle.cnf.specs.Refusals.{refused}
-use Rattle.cnf.specs.Tables.{Literal}
-use Rattle.cnf.specs.Scans.{and_then, placed, no_words, with_literal, with_end, tallied, tallied_from}
-use Rattle.cnf.proofs.Legal.{Spells, done, literal, stop, Step, by_literal, by_end, step, Between, between}
+use Rattle.cnf.specs.Scans.{and_then, placed, no_words, tallied_from}
+use Rattle.cnf.proofs.Legal.{Spells, done, literal, stop, between}
 use Rattle.words.specs.declared.faults.WordFault.{WordFault}
-use Rattle.words.specs.declared.faults.ClauseFault.{ClauseFault}
 use Rattle.words.specs.declared.faults.ClauseFault.TheVariants.{Rule}
-use Rattle.words.specs.declared.faults.HeadFault.{HeadFault}
 use Rattle.words.specs.declared.faults.HeadFault.TheVariants as head
-use Rattle.words.specs.Faults.{beside_clause, head_from_clause, head_from_word}
-use Rattle.words.specs.Numbers.{within, is_number, valued, numbered, value_of, magnitude_of}
-use Rattle.words.specs.Words.{Token, tokens, Said, word, end, said_of, place_of}
+use Rattle.words.specs.Faults.{beside_clause, head_from_word}
+use Rattle.words.specs.Numbers.{within, numbered}
+use Rattle.words.specs.Words.{Token, Said, place_of}
 use Rattle.dimacs.specs.declared.head.Head.{Head}
-use Rattle.dimacs.specs.declared.read.Problem.{Problem}
 use Rattle.dimacs.specs.Heads.{head_from, line_end, line_tokens, problem_of, head_number, headed, up_to, limited, head_of, head_read}
-use Rattle.dimacs.specs.Reads.{in_clause, by_rule, taken, token_taken, finished, clauses_from, onto_number, numbers_of, as_head, body_tokens, body_tally, found, read_answer, text_words, words_after}
+use Rattle.dimacs.specs.Reads.{in_clause, taken, token_taken, clauses_from, onto_number, numbers_of}
 use Rattle.dimacs.proofs.Bodies.{taken_parts}
 use Rattle.dimacs.proofs.Heads.{line_end_within, head_start_within}
 

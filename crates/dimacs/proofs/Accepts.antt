@@ -1,25 +1,24 @@
 -- The reader accepts exactly the texts of the grammar.
-use Rattle.std.proofs.Common.{◌≡◌, ℕ, zero, suc, ◌+◌, ◌-◌, ◌<◌, ◌≤◌, Bool, true, false, cond, not, ◌&&◌, eqb, ltb, leb, List, [], ◌∷◌, ◌++◌, length, take, drop, ℤ, pos, nat_abs, Some, None, Ok, Err, Option, Result, sym, refl, ap, ◌∙◌, subst, ⊎_elim, true≢false, arith}
-use Rattle.std.specs.List.{prefix_len, AllByRecursion as All}
+use Rattle.std.proofs.Common.{◌≡◌, ℕ, ◌+◌, ◌<◌, ◌≤◌, Bool, true, false, cond, leb, List, [], ◌∷◌, ◌++◌, length, take, drop, ℤ, pos, Some, Ok, Err, Result, sym, refl, ap, ◌∙◌, subst, ⊎_elim, arith}
+use Rattle.std.specs.List.{prefix_len}
 use Rattle.std.proofs.lemmas.List.{drop-take, take-append-drop, drop-drop, drop_at, take_at, nil_from_length}
 use Rattle.std.proofs.lemmas.Bool.{cond-true, cond-false, le-leb, lt-leb, leb-true, le-ltb, and_from, eq-eqb, ne_eqb, cases_lt}
 use Rattle.cnf.specs.declared.refusal.Check.TheVariants.{WordsRoom}
 use Rattle.cnf.specs.declared.tally.Tally.{Tally}
 use Rattle.cnf.specs.Refusals.{refused}
-use Rattle.cnf.specs.Tables.{Legal, literals_in, spelled}
+use Rattle.cnf.specs.Tables.{literals_in}
 use Rattle.cnf.specs.Scans.{and_then, no_words, closed, table_checked}
 use Rattle.cnf.proofs.Legal.{Spells, accepted_is_legal, clauses_spell}
 use Rattle.words.specs.declared.faults.ClauseFault.{ClauseFault}
-use Rattle.words.specs.declared.faults.HeadFault.{HeadFault}
 use Rattle.words.specs.declared.faults.HeadFault.TheVariants as head
 use Rattle.words.specs.Faults.{head_from_clause}
-use Rattle.words.specs.Words.{Token, token, tokens, Said, said_of, letters}
+use Rattle.words.specs.Words.{Token, token, tokens, said_of, letters}
 use Rattle.words.proofs.Tokens.{word_tokens}
 use Rattle.dimacs.specs.declared.head.Head.{Head}
 use Rattle.dimacs.specs.declared.read.Problem.{Problem}
 use Rattle.dimacs.specs.Heads.{head_from, in_line, line_end, line_tokens, is_p, is_cnf, problem_of, limited, head_of, head_read}
 use Rattle.dimacs.specs.Reads.{clauses_from, numbers_of, as_head, body_tokens, body_tally, found, read_answer, text_words, words_after}
-use Rattle.dimacs.specs.Grammar.{Worded, Numeral, Numerals, Commented, ProblemLine as Problem_line, Text, problem, ReadsTheGrammar}
+use Rattle.dimacs.specs.Grammar.{Numeral, Numerals, Commented, ProblemLine as Problem_line, Text, problem, ReadsTheGrammar}
 use Rattle.dimacs.proofs.Accepted.{ok≢err, both, AreNumbers, Body, body, spells_length, Counts, counts, limited_ok, HeadParts, head_parts}
 use Rattle.dimacs.proofs.Worded.{bytes_of, leading_front, worded_tokens, tokens_worded}
 use Rattle.dimacs.proofs.Comments.{behind, skips, commented, behind_comments, front_passes, line_stop}

@@ -1,5 +1,5 @@
 -- How the clauses of a text step, word by word.
-use Rattle.std.proofs.Common.{◌≡◌, ℕ, ◌+◌, ◌<◌, ◌≤◌, Bool, true, false, cond, leb, List, [], ◌∷◌, ◌++◌, length, ℤ, Some, None, Ok, Err, Option, Result, sym, refl, ap, ◌∙◌, subst, ⊎_elim, true≢false, arith}
+use Rattle.std.proofs.Common.{◌≡◌, ℕ, ◌+◌, ◌<◌, ◌≤◌, Bool, true, false, cond, leb, List, [], ◌∷◌, ℤ, Some, None, Ok, Err, Option, Result, sym, refl, ap, ◌∙◌, arith}
 use Rattle.std.proofs.lemmas.Bool.{cond-true, cond-false, leb-false}
 use Rattle.cnf.specs.declared.refusal.Check.{Check}
 use Rattle.cnf.specs.declared.refusal.Check.TheVariants.{ClauseCount}
@@ -8,11 +8,10 @@ use Rattle.cnf.specs.Refusals.{refused}
 use Rattle.cnf.specs.Scans.{and_then, tallied}
 use Rattle.cnf.proofs.Legal.{Step, by_literal, by_end, step}
 use Rattle.words.specs.declared.faults.WordFault.{WordFault}
-use Rattle.words.specs.declared.faults.WordFault.TheVariants.{NotANumber}
 use Rattle.words.specs.declared.faults.ClauseFault.{ClauseFault}
 use Rattle.words.specs.declared.faults.ClauseFault.TheVariants.{Rule}
 use Rattle.words.specs.declared.word.Reader.{Reader}
-use Rattle.words.specs.Numbers.{is_number, valued, numbered}
+use Rattle.words.specs.Numbers.{is_number, numbered}
 use Rattle.words.specs.Words.{Token, Said, word, end, said_before, is_word, some_of, said_number}
 use Rattle.words.specs.Readers.{left, Honest, Met}
 use Rattle.dimacs.specs.Reads.{number_in, in_clause, by_rule, taken, token_taken, taken_number, said_taken, finished, clauses_from, onto_number, numbers_of}

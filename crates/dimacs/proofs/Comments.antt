@@ -1,7 +1,7 @@
 -- Comment lines, and what stands behind them.
-use Rattle.std.proofs.Common.{◌≡◌, ℕ, zero, suc, ◌+◌, ◌<◌, ◌≤◌, Bool, true, false, cond, not, eqb, List, [], ◌∷◌, ◌++◌, length, take, drop, sym, refl, ap, ◌∙◌, subst, one-add, arith}
+use Rattle.std.proofs.Common.{◌≡◌, ℕ, suc, ◌+◌, ◌<◌, Bool, true, false, cond, eqb, List, [], ◌∷◌, ◌++◌, length, take, drop, sym, refl, ap, ◌∙◌, subst, one-add, arith}
 use Rattle.std.specs.List.{prefix_len, AllByRecursion as All}
-use Rattle.std.proofs.lemmas.Bool.{cond-true, cond-false, not-false, eqb-true}
+use Rattle.std.proofs.lemmas.Bool.{not-false, eqb-true}
 use Rattle.dimacs.specs.Heads.{head_from, in_line}
 use Rattle.dimacs.specs.Grammar.{Commented, no_comment, comment}
 

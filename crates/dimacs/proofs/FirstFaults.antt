@@ -1,5 +1,5 @@
 -- The fault that the reader gives is the first in reading order.
-use Rattle.std.proofs.Common.{◌≡◌, ℕ, ◌+◌, ◌<◌, Bool, true, false, cond, leb, List, [], ◌∷◌, ◌++◌, length, Ok, Err, Result, sym, refl, ap, ◌∙◌, subst}
+use Rattle.std.proofs.Common.{◌≡◌, ℕ, ◌+◌, Bool, true, false, cond, leb, List, [], ◌∷◌, length, Ok, Err, Result, sym, refl, ap, ◌∙◌, subst}
 use Rattle.std.proofs.lemmas.Bool.{leb-false}
 use Rattle.cnf.specs.declared.tally.Tally.{Tally}
 use Rattle.cnf.specs.declared.refusal.Check.TheVariants.{WordsRoom}
@@ -12,8 +12,8 @@ use Rattle.words.specs.Words.{Token}
 use Rattle.dimacs.specs.declared.head.Head.{Head}
 use Rattle.dimacs.specs.declared.read.Problem.{Problem}
 use Rattle.dimacs.specs.Heads.{head_read}
-use Rattle.dimacs.specs.Reads.{token_taken, clauses_from, as_head, body_tokens, body_tally, found, read_answer}
-use Rattle.dimacs.specs.FirstFaults.{Faultless, nothing, after_it, FirstFault, Refused, in_head, in_clauses, no_room, RefusesTheFirst}
+use Rattle.dimacs.specs.Reads.{token_taken, clauses_from, as_head, body_tokens, body_tally, found}
+use Rattle.dimacs.specs.FirstFaults.{nothing, after_it, FirstFault, Refused, in_head, in_clauses, no_room, RefusesTheFirst}
 use Rattle.dimacs.proofs.Accepted.{ok≢err}
 
 first_by : (v c n : ℕ) (t : Tally) (k : Token) (ks : List Token) (f : ClauseFault) → ((u : Tally) → clauses_from v c n u ks ≡ Err f → FirstFault v c n u ks f) → (r : Result Tally ClauseFault) → token_taken v c t k ≡ r → and_then r (λ u. clauses_from v c n u ks) ≡ Err f → FirstFault v c n t (k ∷ ks) f

@@ -1,12 +1,12 @@
 -- How the lines of a head step.
-use Rattle.std.proofs.Common.{◌≡◌, ℕ, suc, ◌+◌, ◌-◌, ◌<◌, ◌≤◌, Bool, true, false, cond, not, ◌&&◌, eqb, List, [], ◌∷◌, length, get_or, take, drop, Some, None, Option, sym, refl, ap, ◌∙◌, ⊎_elim, true≢false, one-add, arith}
+use Rattle.std.proofs.Common.{◌≡◌, ℕ, ◌+◌, ◌-◌, ◌<◌, ◌≤◌, Bool, true, false, cond, not, ◌&&◌, eqb, List, [], ◌∷◌, length, get_or, take, drop, Some, None, Option, sym, refl, ap, ◌∙◌, true≢false, one-add, arith}
 use Rattle.std.specs.List.{prefix_len}
 use Rattle.std.proofs.lemmas.List.{at_drop_more, at_drop_all, drop-drop, length-drop}
 use Rattle.std.proofs.lemmas.List.Sums.{prefix_len-le-length, prefix_len-drop_yes, prefix_len-drop_no, prefix_len-drop_all}
-use Rattle.std.proofs.lemmas.Bool.{cond-true, cond-false, eq-eqb, ne_eqb, cases_Bool, not_from_true, not_from_false, not-false, not-true, eqb-true, cases_lt, and_parts, and_from, le-ltb, cond_both}
-use Rattle.words.specs.Words.{Token, tokens, Said, word, end, said_of, said_before, is_word}
+use Rattle.std.proofs.lemmas.Bool.{cond-true, cond-false, eq-eqb, ne_eqb, not_from_true, not_from_false, and_parts, and_from, le-ltb, cond_both}
+use Rattle.words.specs.Words.{Token, tokens, Said, word, end, said_of, said_before}
 use Rattle.words.specs.Readers.{Honest}
-use Rattle.dimacs.specs.Heads.{head_from, in_line, line_end, is_p, is_cnf, said_p, said_cnf, problem_line, problem_of, head_of, line_tokens, head_read}
+use Rattle.dimacs.specs.Heads.{head_from, in_line, line_end, is_p, is_cnf, said_p, problem_line, problem_of, head_of, line_tokens, head_read}
 
 pub in_line_yes : (b : ℕ) → (b ≡ 10 → ⊥) → in_line b ≡ true
 in_line_yes b ne = not_from_false (eqb b 10) (ne_eqb b 10 ne)

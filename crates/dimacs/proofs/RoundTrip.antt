@@ -1,23 +1,23 @@
 -- A table written out and read back is that table.
-use Rattle.std.proofs.Common.{◌≡◌, ℕ, zero, suc, ◌+◌, ◌*◌, ◌^◌, ◌<◌, ◌≤◌, Bool, true, false, cond, List, [], ◌∷◌, ◌++◌, length, ℤ, pos, negsuc, nat_abs, Ok, codes, decimal, sym, refl, ap, ◌∙◌, subst, append_assoc, append-nil, arith, length-append}
+use Rattle.std.proofs.Common.{◌≡◌, ℕ, ◌+◌, ◌*◌, ◌^◌, ◌<◌, ◌≤◌, Bool, true, false, cond, List, [], ◌∷◌, ◌++◌, length, ℤ, pos, nat_abs, Ok, codes, decimal, sym, refl, ap, ◌∙◌, subst, append_assoc, append-nil, arith, length-append}
 use Rattle.std.specs.List.{AllByRecursion as All}
 use Rattle.std.specs.Fmt.{signed_decimal}
 use Rattle.std.proofs.lemmas.Fmt.{length-decimal-le}
 use Rattle.std.proofs.ByRecursion.{All-append}
-use Rattle.cnf.specs.Tables.{is_zero, Literal, Legal, literals_in, clauses_of}
+use Rattle.cnf.specs.Tables.{is_zero, Legal, literals_in, clauses_of}
 use Rattle.cnf.specs.Scans.{table_checked}
 use Rattle.cnf.proofs.Legal.{Spells, done, literal, stop, accepted_is_legal, legal_is_accepted, clauses_spell}
-use Rattle.words.specs.Words.{white, dark}
+use Rattle.words.specs.Words.{white}
 use Rattle.dimacs.specs.declared.read.Problem.{Problem}
 use Rattle.dimacs.specs.Heads.{in_line}
 use Rattle.dimacs.specs.Reads.{read_answer, text_words}
-use Rattle.dimacs.specs.Grammar.{Apart, Worded, blank, spaced, Numeral, Numerals, no_comment, ProblemLine, Text, problem}
+use Rattle.dimacs.specs.Grammar.{Worded, blank, spaced, Numerals, no_comment, ProblemLine, Text, problem}
 use Rattle.dimacs.specs.Writes.{head_line, table_text, piece, words_text}
 use Rattle.dimacs.specs.RoundTrips.{ReadsBack, WritesBack}
 use Rattle.dimacs.proofs.Worded.{white-onto}
 use Rattle.dimacs.proofs.Accepts.{only, every}
 use Rattle.dimacs.proofs.Writing.{length-piece, text_is, text_length}
-use Rattle.dimacs.proofs.Decimals.{decimal-dark, decimal_in_line, decimal_nonempty, in_line_from, plain_numeral, signed_numeral, signed_dark, signed_nonempty, signed_short}
+use Rattle.dimacs.proofs.Decimals.{decimal-dark, decimal_in_line, decimal_nonempty, plain_numeral, signed_numeral, signed_dark, signed_nonempty, signed_short}
 
 abbrev written : List ℤ → List (List ℕ)
 written [] = []

@@ -1,33 +1,18 @@
 -- A text is accepted exactly when the grammar has it.
-use Rattle.std.proofs.Common.{◌≡◌, ℕ, zero, suc, ◌+◌, ◌-◌, ◌<◌, ◌≤◌, Bool, true, false, cond, not, ◌&&◌, ◌||◌, eqb, ltb, leb, List, [], ◌∷◌, ◌++◌, length, take, drop, ℤ, pos, negsuc, neg_ℤ, nat_abs, Some, None, Ok, Err, Option, Result, sym, refl, ap, ◌∙◌, subst, true≢false, arith}
-use Rattle.std.specs.List.{prefix_len, AllByRecursion as All}
-use Rattle.std.proofs.lemmas.List.{drop-take, take-append-drop, drop-drop, length-drop, drop_at, take_at, drop_all, length-append}
-use Rattle.std.proofs.lemmas.List.Sums.{prefix_len-le-length}
-use Rattle.std.proofs.lemmas.Bool.{cond-true, cond-false, le-leb, lt-leb, leb-true, leb-false, le-ltb, and_from, and_parts, or_from, not_from_true, eqb-true, eq-eqb, ne_eqb, cases_Bool, cases_lt}
-use Rattle.cnf.specs.declared.refusal.Check.TheVariants.{TextLength, ProblemLine, Limits, ClauseCount, WordsRoom}
+use Rattle.std.proofs.Common.{◌≡◌, ℕ, zero, suc, ◌+◌, ◌≤◌, Bool, true, false, cond, ◌&&◌, eqb, leb, List, [], ◌∷◌, ℤ, pos, neg_ℤ, nat_abs, Some, None, Ok, Err, Option, sym, refl, ap, ◌∙◌, subst, true≢false, arith}
+use Rattle.std.specs.List.{AllByRecursion as All}
+use Rattle.std.proofs.lemmas.Bool.{cond-true, cond-false, le-leb, lt-leb, le-ltb, and_from, and_parts, or_from, not_from_true, eqb-true, eq-eqb}
 use Rattle.cnf.specs.declared.tally.Tally.{Tally}
-use Rattle.cnf.specs.Refusals.{refused}
-use Rattle.cnf.specs.Tables.{Literal, Legal, literals_in, spelled}
-use Rattle.cnf.specs.Scans.{and_then, placed, no_words, with_literal, with_end, tallied, tallied_from, closed, table_checked}
-use Rattle.cnf.specs.Scans as scans
-use Rattle.cnf.proofs.Legal.{Spells, done, literal, stop, Between, between, accepted_is_legal, clauses_spell, literal_word}
-use Rattle.words.specs.declared.faults.WordFault.{WordFault}
+use Rattle.cnf.specs.Scans.{and_then, with_literal, with_end, tallied}
+use Rattle.cnf.proofs.Legal.{Spells, done, literal, stop, literal_word}
 use Rattle.words.specs.declared.faults.WordFault.TheVariants.{NotANumber, TooLarge}
-use Rattle.words.specs.declared.faults.ClauseFault.{ClauseFault}
-use Rattle.words.specs.declared.faults.ClauseFault.TheVariants.{Rule}
-use Rattle.words.specs.declared.faults.HeadFault.{HeadFault}
-use Rattle.words.specs.declared.faults.HeadFault.TheVariants as head
-use Rattle.words.specs.Faults.{head_from_clause}
-use Rattle.words.specs.Numbers.{within, is_number, valued, numbered, value_of, magnitude_of, minus}
-use Rattle.words.specs.Words.{white, Token, token, tokens, Said, word, end, said_of, place_of}
-use Rattle.dimacs.specs.declared.head.Head.{Head}
-use Rattle.dimacs.specs.declared.read.Problem.{Problem}
-use Rattle.dimacs.specs.Heads.{head_from, in_line, line_end, line_tokens, is_p, is_cnf, problem_of, head_number, headed, up_to, limited, head_of, head_read}
-use Rattle.dimacs.specs.Reads.{in_clause, by_rule, taken, token_taken, finished, clauses_from, onto_number, numbers_of, as_head, body_tokens, body_tally, found, read_answer, text_words, words_after}
-use Rattle.dimacs.specs.Grammar.{Apart, Worded, blank, spaced, Numeral, Numerals, Commented, ProblemLine as Problem_line, Text, problem, ReadsTheGrammar}
-use Rattle.dimacs.proofs.Accepted.{ok≢err, both, AreNumbers, Body, body, spells_length, Counts, counts, limited_ok, HeadParts, head_parts}
-use Rattle.dimacs.proofs.Worded.{bytes_of, leading_front, spaced_tokens, worded_tokens, tokens_worded, first_at}
-use Rattle.dimacs.proofs.Comments.{behind, skips, commented, behind_comments, front_passes, line_stop}
+use Rattle.words.specs.Numbers.{is_number, valued, numbered, value_of, magnitude_of, minus}
+use Rattle.words.specs.Words.{Token, tokens, Said, word, said_of}
+use Rattle.dimacs.specs.Heads.{in_line, is_p, is_cnf, problem_of, head_number, headed, up_to, limited}
+use Rattle.dimacs.specs.Reads.{in_clause, by_rule, taken, clauses_from, onto_number, numbers_of}
+use Rattle.dimacs.specs.Grammar.{Worded, Numeral, Numerals, ProblemLine as Problem_line}
+use Rattle.dimacs.proofs.Accepted.{ok≢err, AreNumbers}
+use Rattle.dimacs.proofs.Worded.{bytes_of, tokens_worded, first_at}
 
 -- a word that is a number
 valued_by : (w : List ℕ) (p : ℕ) (z : ℤ) (b : Bool) → leb (magnitude_of w) 99999 ≡ b → cond b (Ok (value_of w)) (Err (TooLarge p)) ≡ Ok z → value_of w ≡ z

@@ -1,5 +1,5 @@
 -- The text of a table: its problem line, then a line for each clause.
-use Rattle.std.specs.Prelude.{◌≡◌, ℕ, ◌≤◌, cond, List, [], ◌∷◌, ◌++◌, length, drop, ℤ, Ok, Err, codes, Result, nat_le}
+use Rattle.std.specs.Prelude.{ℕ, cond, List, [], ◌∷◌, ◌++◌, length, drop, ℤ, Ok, Err, codes, Result, nat_le}
 use Rattle.std.specs.List.{flat_map}
 use Rattle.std.specs.Fmt.{signed_decimal}
 use Rattle.cnf.specs.declared.refusal.Check.TheVariants.{BytesRoom}

@@ -1,5 +1,5 @@
 -- A source that counts down to 1.
-use Rattle.std.specs.Prelude.{ℕ, ◌-◌, ◌≡◌, ltb}
+use Rattle.std.specs.Prelude.{ℕ, ◌-◌, ltb}
 use Rattle.std.proofs.Common.{ap, arith, ltb-false}
 use Rattle.policy.specs.Sources.{Meaning, LawfulSource}
 use Rattle.outside_policies.specs.declared.countdown.Countdown.{Countdown}

@@ -1,8 +1,8 @@
 -- What a word takes of the words that are left.
-use Rattle.std.proofs.Common.{◌≡◌, ℕ, ◌+◌, ◌<◌, ◌≤◌, Bool, true, false, List, length, drop, sym, refl, ap, ◌∙◌, subst, true≢false, arith}
+use Rattle.std.proofs.Common.{◌≡◌, ℕ, ◌+◌, ◌<◌, ◌≤◌, true, List, length, drop, sym, ap, ◌∙◌, true≢false, arith}
 use Rattle.words.specs.declared.word.Reader.{Reader}
-use Rattle.words.specs.Words.{Token, tokens, Said, word, end, said_before, word_from, sorted, word_of, skipped, letters, after, is_word}
-use Rattle.words.specs.Readers.{left, Honest, Met}
+use Rattle.words.specs.Words.{tokens, Said, word, end, said_before, word_from, word_of, skipped, letters, after, is_word}
+use Rattle.words.specs.Readers.{Honest, Met}
 use Rattle.words.proofs.Tokens.{tokens-next, said_is_word, word_moves, end_said}
 
 honest_by : (bs : List ℕ) (p : ℕ) → p ≤ length bs → (w : Said) → w ≡ word_from bs p → Honest (length bs) w

@@ -1,9 +1,9 @@
 -- How the parts of a number step.
-use Rattle.std.proofs.Common.{◌≡◌, ℕ, ◌+◌, ◌-◌, ◌*◌, ◌<◌, ◌≤◌, min, Bool, true, false, cond, ◌&&◌, ◌⊎◌, List, [], ◌∷◌, length, get_or, take, drop, sym, refl, ap, ◌∙◌, ⊎_elim, arith}
+use Rattle.std.proofs.Common.{◌≡◌, ℕ, ◌+◌, ◌-◌, ◌*◌, ◌<◌, ◌≤◌, min, true, false, ◌&&◌, ◌⊎◌, List, [], ◌∷◌, length, get_or, take, drop, sym, ap, ◌∙◌, ⊎_elim, arith}
 use Rattle.std.proofs.lemmas.List.{at_drop_more, at_drop_all, take_all}
 use Rattle.std.proofs.lemmas.Bool.{cond-true, eq-eqb, cases_lt}
 use Rattle.std.proofs.lemmas.Bool.Decides.{nat_tests}
-use Rattle.words.specs.Numbers.{within, digits, counting, minus, unsigned, decimal_after, decimal_value}
+use Rattle.words.specs.Numbers.{within, digits, counting, minus, unsigned, decimal_after}
 
 pub minus_cut : (bs : List ℕ) → 0 < length bs → get_or bs 0 0 ≡ 45 → (true ≡ minus bs) × (take (length bs - 1) (drop 1 bs) ≡ unsigned bs)
 minus_cut [] h e = absurd (omega arith)

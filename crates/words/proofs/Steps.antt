@@ -1,9 +1,9 @@
 -- The first word after a position.
-use Rattle.std.proofs.Common.{◌≡◌, ℕ, ◌+◌, ◌-◌, ◌<◌, ◌≤◌, true, false, List, [], ◌∷◌, length, get_or, take, drop, sym, refl, ap, ◌∙◌, arith}
+use Rattle.std.proofs.Common.{◌≡◌, ℕ, ◌+◌, ◌-◌, ◌<◌, ◌≤◌, true, false, List, [], ◌∷◌, length, take, drop, sym, refl, ap, ◌∙◌, arith}
 use Rattle.std.proofs.lemmas.List.{drop-drop, length-drop, length-take}
 use Rattle.std.proofs.lemmas.List.Sums.{prefix_len-le-length}
 use Rattle.words.specs.Numbers.{is_number}
-use Rattle.words.specs.Words.{white, dark, skipped, letters, word_of, after, Said, token, word, end, sorted, word_from}
+use Rattle.words.specs.Words.{white, dark, skipped, letters, word_of, after, token, word, end, sorted, word_from}
 
 pub start_within : (bs : List ℕ) (p start : ℕ) → p ≤ length bs → start ≡ p + skipped (drop p bs) → start ≤ length bs
 start_within bs p start h s = omega (arith, prefix_len-le-length white (drop p bs), length-drop p bs)

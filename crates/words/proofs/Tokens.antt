@@ -1,11 +1,10 @@
 -- The words of a text are those that the reader meets one after another.
-use Rattle.std.proofs.Common.{◌≡◌, ℕ, zero, suc, ◌+◌, ◌<◌, ◌≤◌, Bool, true, false, cond, not, List, [], ◌∷◌, length, take, drop, sym, refl, ap, ◌∙◌, subst, ⊎_elim, true≢false, one-add, arith}
-use Rattle.std.specs.List.{prefix_len}
+use Rattle.std.proofs.Common.{◌≡◌, ℕ, zero, suc, ◌+◌, ◌<◌, ◌≤◌, Bool, true, false, cond, List, [], ◌∷◌, length, take, drop, sym, refl, ap, ◌∙◌, true≢false, one-add, arith}
 use Rattle.std.proofs.lemmas.List.{drop-drop, length-drop}
 use Rattle.std.proofs.lemmas.List.Sums.{prefix_len-le-length}
-use Rattle.std.proofs.lemmas.Bool.{cond-true, cond-false, cases_Bool, not-true, not-false, not_from_true, not_from_false}
+use Rattle.std.proofs.lemmas.Bool.{cond-true, cond-false, not-true, not_from_false}
 use Rattle.words.specs.Numbers.{is_number}
-use Rattle.words.specs.Words.{white, dark, Token, token, lengthen, opens_word, tokens, skipped, letters, word_of, after, Said, word, end, sorted, said_of, word_from, said_before}
+use Rattle.words.specs.Words.{white, dark, Token, token, lengthen, opens_word, tokens, skipped, letters, word_of, after, word, end, sorted, said_of, word_from, said_before}
 
 skip_by : (t : Bool) (p b : ℕ) (l : List ℕ) → white b ≡ t → tokens (p + 1) l ≡ tokens (p + 1 + skipped l) (drop (skipped l) l) → tokens p (b ∷ l) ≡ tokens (p + cond t (1 + skipped l) 0) (drop (cond t (1 + skipped l) 0) (b ∷ l))
 skip_by true p b l e ih =

@@ -1,5 +1,5 @@
 -- What is left of a text to a reader, and what one word takes of it.
-use Rattle.std.specs.Prelude.{◌≡◌, ℕ, ◌<◌, ◌≤◌, Bool, true, false, List, length, drop}
+use Rattle.std.specs.Prelude.{◌≡◌, ℕ, ◌<◌, true, List, length, drop}
 use Rattle.words.specs.declared.word.Reader.{Reader}
 use Rattle.words.specs.Numbers.{is_number}
 use Rattle.words.specs.Words.{Token, tokens, Said, word, end, said_before, is_word}

@@ -1,5 +1,5 @@
 -- The words of a text: the longest runs of bytes that are no white space, each with the place of its first byte.
-use Rattle.std.specs.Prelude.{ℕ, ◌+◌, Bool, true, false, cond, not, ◌&&◌, ◌||◌, List, [], ◌∷◌, take, drop, ℤ, Some, None, Ok, Err, Option, Result, ◌==◌}
+use Rattle.std.specs.Prelude.{ℕ, ◌+◌, Bool, true, false, cond, not, ◌||◌, List, [], ◌∷◌, take, drop, ℤ, Some, None, Ok, Err, Option, Result, ◌==◌}
 use Rattle.std.specs.List.{prefix_len}
 use Rattle.words.specs.declared.faults.WordFault.{WordFault}
 use Rattle.words.specs.declared.faults.WordFault.TheVariants.{NotANumber}

@@ -7,6 +7,6 @@ use Rattle.generator_run.proofs.ten_thousandth.Goals as goal
 
 pub returns : goal.returns
 returns c =
-    let start : ◌≡◌ {A = Result Generator Refusal} (Ok c.in-ok-generator.generator) (seeded 1) = c.in-ok-generator.ensures.start in
-    let one : c.in-ok-generator.generator ≡ holding 1 = cc in
-    ap Ok (c.number-after.ensures ∙ ap (λ g. generator.number (after_draws generator 9999 g)) one)
+    let start : ◌≡◌ {A = Result Generator Refusal} (Ok c.in_ok-generator.generator) (seeded 1) = c.in_ok-generator.ensures.start in
+    let one : c.in_ok-generator.generator ≡ holding 1 = cc in
+    ap Ok (c.number_after.ensures ∙ ap (λ g. generator.number (after_draws generator 9999 g)) one)

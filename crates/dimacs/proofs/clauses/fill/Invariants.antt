@@ -1,4 +1,4 @@
-use Rattle.std.proofs.Common.{◌≡◌, ◌+◌, ◌-◌, ◌≤◌, ◌++◌, length, take, drop}
+use Rattle.std.proofs.Common.{◌≡◌, ◌+◌, ◌-◌, ◌++◌, length, take, drop}
 use Rattle.words.specs.Words.{tokens}
 use Rattle.words.specs.Readers.{left}
 use Rattle.dimacs.specs.Reads.{numbers_of}

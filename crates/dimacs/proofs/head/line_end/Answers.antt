@@ -1,4 +1,4 @@
-use Rattle.std.proofs.Common.{◌≡◌, get_or, ◌∙◌, arith, rules}
+use Rattle.std.proofs.Common.{◌≡◌, get_or, ◌∙◌, arith}
 use Rattle.dimacs.proofs.Heads.{line_more, line_stops, line_all}
 use Rattle.dimacs.proofs.head.line_end.Goals as goal
 

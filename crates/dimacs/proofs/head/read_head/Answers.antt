@@ -5,5 +5,5 @@ use Rattle.dimacs.proofs.head.read_head.Goals as goal
 
 pub returns : goal.returns
 returns c =
-    c.head-of.ensures
-    ∙ head_by c.args.text.now c.head-start-start.result c.line-end-end.result (said_pair c.problem-words.result) (omega arith) c.head-start-start.ensures.value c.line-end-end.ensures.value c.problem-words.ensures
+    c.head_of.ensures
+    ∙ head_by c.args.text.now c.head_start-start.result c.line_end-end.result (said_pair c.problem_words.result) (omega arith) c.head_start-start.ensures.value c.line_end-end.ensures.value c.problem_words.ensures

@@ -1,4 +1,4 @@
-use Rattle.std.proofs.Common.{◌≡◌, ◌+◌, ◌<◌, ◌≤◌, true, false, ◌++◌, length, Ok, Err, sym, refl, ap, ◌∙◌, arith, rules}
+use Rattle.std.proofs.Common.{◌≡◌, ◌+◌, length, Ok, Err, sym, ap, ◌∙◌, arith, rules}
 use Rattle.std.proofs.lemmas.Bool.{cond-true, cond-false, leb-true, leb-false, le-leb, lt-leb}
 use Rattle.lay.specs.Laid.{laid}
 use Rattle.lay.proofs.Laying.{laid-laid}
@@ -10,22 +10,22 @@ use Rattle.dimacs.proofs.Writing.{text_is, text_length, few_words, written_is, l
 use Rattle.dimacs.proofs.RoundTrip.{reads_back}
 use Rattle.dimacs.proofs.write.write.Goals as goal
 
-pub words-width-width-requires : goal.words-width-width-requires
-words-width-width-requires c = few_words c.args.variables c.args.words.now c.in-ok-clauses.clauses (sym c.in-ok-clauses.ensures.value)
+pub words_width-width-requires : goal.words_width-width-requires
+words_width-width-requires c = few_words c.args.variables c.args.words.now c.in_ok-clauses.clauses (sym c.in_ok-clauses.ensures.value)
 
-pub returns-in-err-clauses : goal.returns-in-err-clauses
-returns-in-err-clauses c = record { answer = search rules; bytes = search rules; back = reads_back c.args.variables c.args.words.now }
+pub returns-in_err-clauses : goal.returns-in_err-clauses
+returns-in_err-clauses c = record { answer = search rules; bytes = search rules; back = reads_back c.args.variables c.args.words.now }
 
 pub returns-then-not-fit : goal.returns-then-not-fit
 returns-then-not-fit c =
     let v = c.args.variables in
     let ws = c.args.words.now in
-    let n = c.in-ok-clauses.clauses in
-    let e = sym c.in-ok-clauses.ensures.value in
-    let h = ap length c.head-line-head.ensures in
+    let n = c.in_ok-clauses.clauses in
+    let e = sym c.in_ok-clauses.ensures.value in
+    let h = ap length c.head_line-head.ensures in
     let l = text_length v ws n e in
     let x = leb-false _ _ (sym c.if-not-fit.ensures) in
-    let r : written v ws (length c.args.out.now) ≡ Err (refused BytesRoom 0) = written_is v ws n e (length c.args.out.now) ∙ cond-false _ _ _ (lt-leb (length (table_text v (clauses_of ws))) (length c.args.out.now) (omega (arith, c.words-width-width.ensures))) in
+    let r : written v ws (length c.args.out.now) ≡ Err (refused BytesRoom 0) = written_is v ws n e (length c.args.out.now) ∙ cond-false _ _ _ (lt-leb (length (table_text v (clauses_of ws))) (length c.args.out.now) (omega (arith, c.words_width-width.ensures))) in
     record { answer = sym r; bytes = sym (ap (λ y. bytes_after y (table_text v (clauses_of ws)) c.args.out.now) r); back = reads_back v ws }
 
 pub returns : goal.returns
@@ -33,20 +33,20 @@ returns c =
     let v = c.args.variables in
     let ws = c.args.words.now in
     let out = c.args.out.now in
-    let n = c.in-ok-clauses.clauses in
-    let e = sym c.in-ok-clauses.ensures.value in
-    let h = c.head-line-head.ensures in
+    let n = c.in_ok-clauses.clauses in
+    let e = sym c.in_ok-clauses.ensures.value in
+    let h = c.head_line-head.ensures in
     let hl = ap length h in
     let l = text_length v ws n e in
     let x = leb-true _ _ (sym c.if-not-fit.ensures) in
-    let at : c.lay-line-at.result ≡ 0 + length (head_line v n) = omega (arith, c.lay-line-at.ensures.end) in
-    let r : written v ws (length out) ≡ Ok (length (table_text v (clauses_of ws))) = written_is v ws n e (length out) ∙ cond-true _ _ _ (le-leb (length (table_text v (clauses_of ws))) (length out) (omega (arith, c.words-width-width.ensures))) in
-    let front : c.lay-line-at.new.out ≡ laid out 0 (head_line v n) = c.lay-line-at.ensures.bytes ∙ ap (laid out 0) h in
+    let at : c.lay_line-at.result ≡ 0 + length (head_line v n) = omega (arith, c.lay_line-at.ensures.end) in
+    let r : written v ws (length out) ≡ Ok (length (table_text v (clauses_of ws))) = written_is v ws n e (length out) ∙ cond-true _ _ _ (le-leb (length (table_text v (clauses_of ws))) (length out) (omega (arith, c.words_width-width.ensures))) in
+    let front : c.lay_line-at.new.out ≡ laid out 0 (head_line v n) = c.lay_line-at.ensures.bytes ∙ ap (laid out 0) h in
     record {
-      answer = ap Ok (omega (arith, c.lay-words.ensures.end)) ∙ sym r;
+      answer = ap Ok (omega (arith, c.lay_words.ensures.end)) ∙ sym r;
       bytes =
-          c.lay-words.ensures.bytes
-          ∙ ap (λ o. laid o c.lay-line-at.result (words_text ws)) front
+          c.lay_words.ensures.bytes
+          ∙ ap (λ o. laid o c.lay_line-at.result (words_text ws)) front
           ∙ ap (λ k. laid (laid out 0 (head_line v n)) k (words_text ws)) at
           ∙ laid-laid out (head_line v n) (words_text ws) 0 (omega arith)
           ∙ ap (laid out 0) (text_is v ws n e)

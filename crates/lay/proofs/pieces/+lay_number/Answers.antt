@@ -8,14 +8,14 @@ use Rattle.lay.proofs.pieces.+lay_number.Goals as goal
 pub bounds-out-at : goal.bounds-out-at
 bounds-out-at t c = omega (arith, decimal_nonempty c.args.number (omega arith))
 
-pub lay-number-last-requires : goal.lay-number-last-requires
-lay-number-last-requires t c = (omega arith, omega (arith, width_step c.args.number (omega arith) (omega arith)))
+pub lay_number-last-requires : goal.lay_number-last-requires
+lay_number-last-requires t c = (omega arith, omega (arith, width_step c.args.number (omega arith) (omega arith)))
 
 pub bounds-out-last : goal.bounds-out-last
 bounds-out-last t c = omega (arith, width_step c.args.number (omega arith) (omega arith))
 
-pub overflow-add-result-2 : goal.overflow-add-result-2
-overflow-add-result-2 t c = record { fits = omega (arith, width_step c.args.number (omega arith) (omega arith)) }
+pub overflow_add-result-2 : goal.overflow_add-result-2
+overflow_add-result-2 t c = record { fits = omega (arith, width_step c.args.number (omega arith) (omega arith)) }
 
 pub returns-then-number-lt10 : goal.returns-then-number-lt10
 returns-then-number-lt10 t c =

@@ -1,4 +1,4 @@
 use Rattle.lay.proofs.pieces.+number_width.Given as goal
 
-abbrev pub decreases-number-width : goal.decreases-number-width
-decreases-number-width l = l.number
+abbrev pub decreases-number_width : goal.decreases-number_width
+decreases-number_width l = l.number

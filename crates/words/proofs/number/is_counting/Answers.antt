@@ -3,4 +3,4 @@ use Rattle.words.proofs.Numbers.{counting-digits}
 use Rattle.words.proofs.number.is_counting.Goals as goal
 
 pub returns : goal.returns
-returns c = c.all-digits.ensures ∙ counting-digits c.args.bytes.now c.if-bytes-lt49.false
+returns c = c.all_digits.ensures ∙ counting-digits c.args.bytes.now c.if-bytes-lt49.false

@@ -7,11 +7,11 @@ use Rattle.bitset.proofs.Passing.{passing_le}
 use Rattle.bitset.proofs.Members.{differs, turned_as, assigned}
 use Rattle.bitset.proofs.set.BitSet.assign.Goals as goal
 
-pub overflow-add-self : goal.overflow-add-self
-overflow-add-self c = let l = passing_le (member c.args.self.now) 1024 in let n = c.requires.1.number in search rules
+pub overflow_add-self : goal.overflow_add-self
+overflow_add-self c = let l = passing_le (member c.args.self.now) 1024 in let n = c.requires.1.number in search rules
 
-pub overflow-sub-self : goal.overflow-sub-self
-overflow-sub-self c =
+pub overflow_sub-self : goal.overflow_sub-self
+overflow_sub-self c =
     let s = c.args.self.now in
     let e : member s c.args.k ≡ not c.args.present = sym c.contains.ensures ∙ differs _ _ c.if-contains-present.true in
     omega (arith, c.requires.1.number, passing_room (member s) c.args.k 1024 c.requires.0 (e ∙ ap not c.if-present.false))

@@ -1,4 +1,4 @@
-use Rattle.std.proofs.Common.{◌≡◌, ◌/◌, ◌%◌, ◌^◌, eqb, get_or, ap}
+use Rattle.std.proofs.Common.{◌/◌, ◌%◌, ◌^◌, eqb, get_or, ap}
 use lib.Bits.{and_mask}
 use Rattle.bitset.specs.Sets.{member}
 use Rattle.bitset.proofs.set.BitSet.contains.Goals as goal

@@ -31,7 +31,7 @@ pub loop-w-preserved : goal.loop-w-preserved
 loop-w-preserved c =
     let s = c.args.self.now in
     let w = c.loop-w.w in
-    (omega (arith, c.loop-w.invariant.0, c.loop-w.invariant.1), omega arith, λ j p q. further s c.args.from w c.loop-w.low 64 (omega arith) c.loop-w.invariant.2 c.in-default.ensures j p (omega arith))
+    (omega (arith, c.loop-w.invariant.0, c.loop-w.invariant.1), omega arith, λ j p q. further s c.args.from w c.loop-w.low 64 (omega arith) c.loop-w.invariant.2 c.in_default.ensures j p (omega arith))
 
 pub returns : goal.returns
 returns c = λ j p.

@@ -1,4 +1,4 @@
-use Rattle.std.proofs.Common.{◌≡◌, ◌+◌, ◌≤◌, length, get_or, sym, refl, ap, ◌∙◌, arith}
+use Rattle.std.proofs.Common.{◌≡◌, length, get_or, sym, refl, ap, ◌∙◌, arith}
 use Rattle.formula.specs.Occurrences.{passing}
 use Rattle.bitset.specs.Sets.{member}
 use Rattle.bitset.proofs.Passing.{passing_still, passing_yes, passing_at}
@@ -7,21 +7,21 @@ use Rattle.bitset.proofs.set.BitSet.nth.Goals as goal
 pub loop-init : goal.loop-init
 loop-init c = (refl, omega arith)
 
-pub present-from-at-requires : goal.present-from-at-requires
-present-from-at-requires c = (c.loop.invariant.1, (c.requires.0, omega (arith, c.loop.invariant.0, c.requires.1)))
+pub present_from-at-requires : goal.present_from-at-requires
+present_from-at-requires c = (c.loop.invariant.1, (c.requires.0, omega (arith, c.loop.invariant.0, c.requires.1)))
 
 pub loop-preserved : goal.loop-preserved
 loop-preserved c =
     let p = member c.args.self.now in
-    let f = c.present-from-at.ensures in
-    (omega (arith, passing_yes p c.present-from-at.result f.passes, passing_still p c.loop.at c.present-from-at.result f.from f.before, c.loop.invariant.0), omega (arith, f.below))
+    let f = c.present_from-at.ensures in
+    (omega (arith, passing_yes p c.present_from-at.result f.passes, passing_still p c.loop.at c.present_from-at.result f.from f.before, c.loop.invariant.0), omega (arith, f.below))
 
-pub present-from-requires : goal.present-from-requires
-present-from-requires c = (c.loop.invariant.1, (c.requires.0, omega (arith, c.loop.invariant.0, c.loop.auto.counter-end, c.requires.1)))
+pub present_from-requires : goal.present_from-requires
+present_from-requires c = (c.loop.invariant.1, (c.requires.0, omega (arith, c.loop.invariant.0, c.loop.auto.counter-end, c.requires.1)))
 
 pub returns : goal.returns
 returns c =
     let p = member c.args.self.now in
-    let f = c.present-from.ensures in
-    let e : length (passing p c.present-from.result) ≡ c.args.place = omega (arith, passing_still p c.loop.at c.present-from.result f.from f.before, c.loop.invariant.0, c.loop.auto.counter-end, c.loop-test.false) in
-    record { is = sym (ap (λ k. get_or (passing p 1024) k 0) (sym e) ∙ passing_at p c.present-from.result 1024 f.below f.passes); inside = f.passes }
+    let f = c.present_from.ensures in
+    let e : length (passing p c.present_from.result) ≡ c.args.place = omega (arith, passing_still p c.loop.at c.present_from.result f.from f.before, c.loop.invariant.0, c.loop.auto.counter-end, c.loop-test.false) in
+    record { is = sym (ap (λ k. get_or (passing p 1024) k 0) (sym e) ∙ passing_at p c.present_from.result 1024 f.below f.passes); inside = f.passes }

@@ -5,20 +5,20 @@ use Rattle.lay.proofs.Laying.{Stands, stands_more, stands_put}
 use Rattle.lay.proofs.Lines.{length_line, line_room}
 use Rattle.lay.proofs.put.Line.put.Goals as goal
 
-pub lay-bytes-first-requires : goal.lay-bytes-first-requires
-lay-bytes-first-requires c = omega (arith, line_room c.args.self.now (length c.args.out.now) c.args.at c.if-at-out.false c.if-not-fits.ensures)
+pub lay_bytes-first-requires : goal.lay_bytes-first-requires
+lay_bytes-first-requires c = omega (arith, line_room c.args.self.now (length c.args.out.now) c.args.at c.if-at-out.false c.if-not-fits.ensures)
 
-pub lay-number-between-requires : goal.lay-number-between-requires
-lay-number-between-requires c = omega (arith, line_room c.args.self.now (length c.args.out.now) c.args.at c.if-at-out.false c.if-not-fits.ensures)
+pub lay_number-between-requires : goal.lay_number-between-requires
+lay_number-between-requires c = omega (arith, line_room c.args.self.now (length c.args.out.now) c.args.at c.if-at-out.false c.if-not-fits.ensures)
 
-pub lay-bytes-second-requires : goal.lay-bytes-second-requires
-lay-bytes-second-requires c = omega (arith, line_room c.args.self.now (length c.args.out.now) c.args.at c.if-at-out.false c.if-not-fits.ensures)
+pub lay_bytes-second-requires : goal.lay_bytes-second-requires
+lay_bytes-second-requires c = omega (arith, line_room c.args.self.now (length c.args.out.now) c.args.at c.if-at-out.false c.if-not-fits.ensures)
 
-pub lay-number-after-requires : goal.lay-number-after-requires
-lay-number-after-requires c = omega (arith, line_room c.args.self.now (length c.args.out.now) c.args.at c.if-at-out.false c.if-not-fits.ensures)
+pub lay_number-after-requires : goal.lay_number-after-requires
+lay_number-after-requires c = omega (arith, line_room c.args.self.now (length c.args.out.now) c.args.at c.if-at-out.false c.if-not-fits.ensures)
 
-pub lay-bytes-requires : goal.lay-bytes-requires
-lay-bytes-requires c = omega (arith, line_room c.args.self.now (length c.args.out.now) c.args.at c.if-at-out.false c.if-not-fits.ensures)
+pub lay_bytes-requires : goal.lay_bytes-requires
+lay_bytes-requires c = omega (arith, line_room c.args.self.now (length c.args.out.now) c.args.at c.if-at-out.false c.if-not-fits.ensures)
 
 pub returns : goal.returns
 returns c =
@@ -32,11 +32,11 @@ returns c =
     let d = l.after.now in
     let h : at ≤ length out = c.if-at-out.false in
     let room : at + length (line_of l) ≤ length out = omega (arith, length_line l, line_room l (length out) at c.if-at-out.false c.if-not-fits.ensures) in
-    let s0 : Stands out at a c.lay-bytes-first.new.out c.lay-bytes-first.result = record { bytes = c.lay-bytes-first.ensures.bytes; end = c.lay-bytes-first.ensures.end } in
-    let s1 = stands_more out at a _ _ m _ _ h s0 c.lay-number-between.ensures.bytes c.lay-number-between.ensures.end in
-    let s2 = stands_more out at (a ++ m) _ _ b _ _ h s1 c.lay-bytes-second.ensures.bytes c.lay-bytes-second.ensures.end in
-    let s3 = stands_more out at ((a ++ m) ++ b) _ _ n _ _ h s2 c.lay-number-after.ensures.bytes c.lay-number-after.ensures.end in
-    let s4 = stands_more out at (((a ++ m) ++ b) ++ n) _ _ d _ _ h s3 c.lay-bytes.ensures.bytes c.lay-bytes.ensures.end in
+    let s0 : Stands out at a c.lay_bytes-first.new.out c.lay_bytes-first.result = record { bytes = c.lay_bytes-first.ensures.bytes; end = c.lay_bytes-first.ensures.end } in
+    let s1 = stands_more out at a _ _ m _ _ h s0 c.lay_number-between.ensures.bytes c.lay_number-between.ensures.end in
+    let s2 = stands_more out at (a ++ m) _ _ b _ _ h s1 c.lay_bytes-second.ensures.bytes c.lay_bytes-second.ensures.end in
+    let s3 = stands_more out at ((a ++ m) ++ b) _ _ n _ _ h s2 c.lay_number-after.ensures.bytes c.lay_number-after.ensures.end in
+    let s4 = stands_more out at (((a ++ m) ++ b) ++ n) _ _ d _ _ h s3 c.lay_bytes.ensures.bytes c.lay_bytes.ensures.end in
     let whole : (((a ++ m) ++ b) ++ n) ++ d ≡ line_of l = simp append_assoc in
-    let s : Stands out at (line_of l) c.lay-bytes.new.out c.lay-bytes.result = record { bytes = s4.bytes ∙ ap (laid out at) whole; end = s4.end ∙ ap (λ x. at + length x) whole } in
-    stands_put out at (line_of l) c.lay-bytes.new.out c.lay-bytes.result s room
+    let s : Stands out at (line_of l) c.lay_bytes.new.out c.lay_bytes.result = record { bytes = s4.bytes ∙ ap (laid out at) whole; end = s4.end ∙ ap (λ x. at + length x) whole } in
+    stands_put out at (line_of l) c.lay_bytes.new.out c.lay_bytes.result s room
