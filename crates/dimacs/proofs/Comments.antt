@@ -1,6 +1,6 @@
 -- Comment lines, and what stands behind them.
 use Rattle.std.proofs.Common.{◌≡◌, ℕ, suc, ◌+◌, ◌<◌, Bool, true, false, cond, eqb, List, [], ◌∷◌, ◌++◌, length, take, drop, sym, refl, ap, ◌∙◌, subst, one-add, arith}
-use Rattle.std.specs.List.{prefix_len, AllByRecursion as All}
+use Rattle.std.specs.List.{prefix_len, AllByRecursion}
 use Rattle.std.proofs.lemmas.Bool.{not-false, eqb-true}
 use Rattle.dimacs.specs.Heads.{head_from, in_line}
 use Rattle.dimacs.specs.Grammar.{Commented, no_comment, comment}
@@ -28,7 +28,7 @@ skips false p (b ∷ l) = skips_by (eqb b 99) p b l refl (skips true (p + 1) l)
 -- comment lines, the first of them begun or not
 abbrev Lines : Bool → List ℕ → List ℕ → Type 0
 Lines false l r = Commented l r
-Lines true l r = (line : List ℕ) × (bs : List ℕ) × All (λ b. in_line b ≡ true) line × (l ≡ line ++ (10 ∷ bs)) × Commented bs r
+Lines true l r = (line : List ℕ) × (bs : List ℕ) × AllByRecursion (λ b. in_line b ≡ true) line × (l ≡ line ++ (10 ∷ bs)) × Commented bs r
 
 by_end : (u : Bool) (b : ℕ) (l r : List ℕ) → in_line b ≡ u → Lines u l r → Lines true (b ∷ l) r
 by_end true b l r e p = (b ∷ p.0, p.1, (e, p.2), ap (λ x. b ∷ x) p.3, p.4)
@@ -49,7 +49,7 @@ commented_by false (b ∷ l) h = by_c (eqb b 99) b l refl (commented_by true l) 
 pub commented : (l : List ℕ) → 0 < length (behind false l) → Commented l (behind false l)
 commented l h = commented_by false l h
 
-through : (line bs : List ℕ) → All (λ b. in_line b ≡ true) line → behind true (line ++ (10 ∷ bs)) ≡ behind false bs
+through : (line bs : List ℕ) → AllByRecursion (λ b. in_line b ≡ true) line → behind true (line ++ (10 ∷ bs)) ≡ behind false bs
 through [] bs h = refl
 through (b ∷ line) bs h = ap (λ x. behind x (line ++ (10 ∷ bs))) h.0 ∙ through line bs h.1
 
@@ -58,11 +58,11 @@ behind_comments more no_comment e = ap (behind false) e ∙ sym e
 behind_comments more (comment line {bs} {rest} h c) e = through line bs h ∙ behind_comments more c e
 
 -- the longest front that passes, and the byte that stops it
-front_by : (u : Bool) (p : ℕ → Bool) (b : ℕ) (l : List ℕ) → p b ≡ u → All (λ x. p x ≡ true) (take (prefix_len p l) l) → All (λ x. p x ≡ true) (take (cond u (1 + prefix_len p l) 0) (b ∷ l))
-front_by true p b l e h = subst (λ n. All (λ x. p x ≡ true) (take n (b ∷ l))) (sym (one-add (prefix_len p l))) (e, h)
+front_by : (u : Bool) (p : ℕ → Bool) (b : ℕ) (l : List ℕ) → p b ≡ u → AllByRecursion (λ x. p x ≡ true) (take (prefix_len p l) l) → AllByRecursion (λ x. p x ≡ true) (take (cond u (1 + prefix_len p l) 0) (b ∷ l))
+front_by true p b l e h = subst (λ n. AllByRecursion (λ x. p x ≡ true) (take n (b ∷ l))) (sym (one-add (prefix_len p l))) (e, h)
 front_by false p b l e h = tt
 
-pub front_passes : (p : ℕ → Bool) (l : List ℕ) → All (λ b. p b ≡ true) (take (prefix_len p l) l)
+pub front_passes : (p : ℕ → Bool) (l : List ℕ) → AllByRecursion (λ b. p b ≡ true) (take (prefix_len p l) l)
 front_passes p [] = tt
 front_passes p (b ∷ l) = front_by (p b) p b l refl (front_passes p l)
 

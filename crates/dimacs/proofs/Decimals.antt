@@ -1,6 +1,6 @@
 -- What is written of a number is that number's form.
 use Rattle.std.proofs.Common.{◌≡◌, ℕ, zero, suc, ◌+◌, ◌-◌, ◌*◌, ◌/◌, ◌%◌, ◌^◌, ◌<◌, ◌≤◌, true, false, eqb, leb, List, [], ◌∷◌, ◌++◌, length, get_or, ℤ, pos, negsuc, neg_ℤ, nat_abs, decimal, sym, refl, ap, ◌∙◌, subst, arith, length-append}
-use Rattle.std.specs.List.{AllByRecursion as All}
+use Rattle.std.specs.List.{AllByRecursion}
 use Rattle.std.specs.Fmt.{signed_decimal}
 use Rattle.std.proofs.lemmas.Fmt.{decimal_by_steps, decimal_digit, first_decimal, length-decimal-le}
 use Rattle.std.proofs.lemmas.Bool.{cond-false, and_from, and_parts, le-leb, leb-true, ne_eqb, or_right, not_from_false}
@@ -40,7 +40,7 @@ writes_more n ds h w =
 writes : (n : ℕ) → n < 2 ^ 64 → Writes n (decimal n)
 writes n h = decimal_by_steps Writes writes_one writes_more n h
 
-digit_bytes : (P : ℕ → Type 0) → ((b : ℕ) → 48 ≤ b → b ≤ 57 → P b) → (ds : List ℕ) → digits ds ≡ true → All P ds
+digit_bytes : (P : ℕ → Type 0) → ((b : ℕ) → 48 ≤ b → b ≤ 57 → P b) → (ds : List ℕ) → digits ds ≡ true → AllByRecursion P ds
 digit_bytes P f [] e = tt
 digit_bytes P f (b ∷ ds) e =
     let p = and_parts (within 48 57 b) (digits ds) e in
@@ -54,10 +54,10 @@ pub in_line_from : (b : ℕ) → 33 ≤ b → in_line b ≡ true
 in_line_from b h = not_from_false (eqb b 10) (ne_eqb b 10 (λ e. omega arith))
 
 module _ (n : ℕ) (h : n < 2 ^ 64) where
-  pub decimal-dark : All (λ b. dark b ≡ true) (decimal n)
+  pub decimal-dark : AllByRecursion (λ b. dark b ≡ true) (decimal n)
   decimal-dark = digit_bytes (λ b. dark b ≡ true) (λ b l u. dark-from b (omega arith)) (decimal n) (writes n h).are
 
-  pub decimal_in_line : All (λ b. in_line b ≡ true) (decimal n)
+  pub decimal_in_line : AllByRecursion (λ b. in_line b ≡ true) (decimal n)
   decimal_in_line = digit_bytes (λ b. in_line b ≡ true) (λ b l u. in_line_from b (omega arith)) (decimal n) (writes n h).are
 
   pub decimal_nonempty : 0 < length (decimal n)
@@ -94,7 +94,7 @@ signed_numeral (pos zero) h = zero_numeral
 signed_numeral (pos (suc n)) h = plain_numeral (suc n) (omega arith) (omega arith)
 signed_numeral (negsuc n) h = negated_numeral n (omega arith)
 
-pub signed_dark : (z : ℤ) → nat_abs z ≤ 256 → All (λ b. dark b ≡ true) (signed_decimal z)
+pub signed_dark : (z : ℤ) → nat_abs z ≤ 256 → AllByRecursion (λ b. dark b ≡ true) (signed_decimal z)
 signed_dark (pos n) h = decimal-dark n (omega arith)
 signed_dark (negsuc n) h = (refl, decimal-dark (suc n) (omega arith))
 

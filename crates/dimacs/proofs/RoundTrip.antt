@@ -1,6 +1,6 @@
 -- A table written out and read back is that table.
 use Rattle.std.proofs.Common.{◌≡◌, ℕ, ◌+◌, ◌*◌, ◌^◌, ◌<◌, ◌≤◌, Bool, true, false, cond, List, [], ◌∷◌, ◌++◌, length, ℤ, pos, nat_abs, Ok, codes, decimal, sym, refl, ap, ◌∙◌, subst, append_assoc, append-nil, arith, length-append}
-use Rattle.std.specs.List.{AllByRecursion as All}
+use Rattle.std.specs.List.{AllByRecursion}
 use Rattle.std.specs.Fmt.{signed_decimal}
 use Rattle.std.proofs.lemmas.Fmt.{length-decimal-le}
 use Rattle.std.proofs.ByRecursion.{All-append}
@@ -23,7 +23,7 @@ abbrev written : List ℤ → List (List ℕ)
 written [] = []
 written (z ∷ zs) = signed_decimal z ∷ written zs
 
-small : {v : ℕ} {b : Bool} {zs : List ℤ} {n k : ℕ} → v ≤ 256 → Spells v b zs n k → All (λ z. nat_abs z ≤ 256) zs
+small : {v : ℕ} {b : Bool} {zs : List ℤ} {n k : ℕ} → v ≤ 256 → Spells v b zs n k → AllByRecursion (λ z. nat_abs z ≤ 256) zs
 small l done = tt
 small l (literal h s) = (omega (arith, h.1), small l s)
 small l (stop s) = (omega arith, small l s)
@@ -33,13 +33,13 @@ behind_white : (b : Bool) → white (cond b 10 32) ≡ true
 behind_white true = refl
 behind_white false = refl
 
-body_worded : (zs : List ℤ) → All (λ z. nat_abs z ≤ 256) zs → Worded (words_text zs) (written zs)
+body_worded : (zs : List ℤ) → AllByRecursion (λ z. nat_abs z ≤ 256) zs → Worded (words_text zs) (written zs)
 body_worded [] h = blank [] tt
 body_worded (z ∷ zs) h =
     let w = behind_white (is_zero z) in
     subst (λ l. Worded l (signed_decimal z ∷ written zs)) (sym (append_assoc (signed_decimal z) (cond (is_zero z) 10 32 ∷ []) (words_text zs))) (spaced [] (signed_decimal z) (cond (is_zero z) 10 32 ∷ words_text zs) tt (signed_nonempty z h.0) (signed_dark z h.0) w (white-onto (cond (is_zero z) 10 32) w (body_worded zs h.1)))
 
-body_numerals : (zs : List ℤ) → All (λ z. nat_abs z ≤ 256) zs → Numerals (written zs) zs
+body_numerals : (zs : List ℤ) → AllByRecursion (λ z. nat_abs z ≤ 256) zs → Numerals (written zs) zs
 body_numerals [] h = tt
 body_numerals (z ∷ zs) h = (signed_numeral z h.0, body_numerals zs h.1)
 
@@ -59,7 +59,7 @@ line v c = codes "p cnf " ++ (decimal v ++ (32 ∷ (decimal c ++ [])))
 line_text_lem : (v c : ℕ) (body : List ℕ) → head_line v c ++ body ≡ line v c ++ (10 ∷ body)
 line_text_lem v c body = simp (append_assoc, append-nil)
 
-line_in_line : (v c : ℕ) → v < 2 ^ 64 → c < 2 ^ 64 → All (λ b. in_line b ≡ true) (line v c)
+line_in_line : (v c : ℕ) → v < 2 ^ 64 → c < 2 ^ 64 → AllByRecursion (λ b. in_line b ≡ true) (line v c)
 line_in_line v c hv hc =
     let rest = All-append (λ b. in_line b ≡ true) (decimal v) (32 ∷ (decimal c ++ [])) (decimal_in_line v hv) (refl, All-append (λ b. in_line b ≡ true) (decimal c) [] (decimal_in_line c hc) tt) in
     (refl, (refl, (refl, (refl, (refl, (refl, rest))))))

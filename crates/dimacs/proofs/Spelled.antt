@@ -1,6 +1,6 @@
 -- A text is accepted exactly when the grammar has it.
 use Rattle.std.proofs.Common.{◌≡◌, ℕ, zero, suc, ◌+◌, ◌≤◌, Bool, true, false, cond, ◌&&◌, eqb, leb, List, [], ◌∷◌, ℤ, pos, neg_ℤ, nat_abs, Some, None, Ok, Err, Option, sym, refl, ap, ◌∙◌, subst, true≢false, arith}
-use Rattle.std.specs.List.{AllByRecursion as All}
+use Rattle.std.specs.List.{AllByRecursion}
 use Rattle.std.proofs.lemmas.Bool.{cond-true, cond-false, le-leb, lt-leb, le-ltb, and_from, and_parts, or_from, not_from_true, eqb-true, eq-eqb}
 use Rattle.cnf.specs.declared.tally.Tally.{Tally}
 use Rattle.cnf.specs.Scans.{and_then, with_literal, with_end, tallied}
@@ -45,7 +45,7 @@ small_number w p z n l =
     let m : magnitude_of w ≡ nat_abs z = sym (abs_by (magnitude_of w) (minus w)) ∙ ap nat_abs n.value in
     cond-true _ _ _ n.form ∙ cond-true _ _ _ (le-leb (magnitude_of w) 99999 (omega arith)) ∙ ap Ok n.value
 
-pub are_numbers : (ks : List Token) (zs : List ℤ) → Numerals (bytes_of ks) zs → All (λ z. nat_abs z ≤ 99999) zs → AreNumbers ks zs
+pub are_numbers : (ks : List Token) (zs : List ℤ) → Numerals (bytes_of ks) zs → AllByRecursion (λ z. nat_abs z ≤ 99999) zs → AreNumbers ks zs
 are_numbers [] [] h l = tt
 are_numbers [] (z ∷ zs) h l = absurd h
 are_numbers (k ∷ ks) [] h l = absurd h
@@ -57,7 +57,7 @@ numbers_are [] (z ∷ zs) h = absurd h
 numbers_are (k ∷ ks) [] h = absurd h
 numbers_are (k ∷ ks) (z ∷ zs) h = ap (λ r. onto_number r (numbers_of ks)) h.0 ∙ ap (λ l. z ∷ l) (numbers_are ks zs h.1)
 
-pub spells_small : {v : ℕ} {b : Bool} {zs : List ℤ} {n k : ℕ} → v ≤ 256 → Spells v b zs n k → All (λ z. nat_abs z ≤ 99999) zs
+pub spells_small : {v : ℕ} {b : Bool} {zs : List ℤ} {n k : ℕ} → v ≤ 256 → Spells v b zs n k → AllByRecursion (λ z. nat_abs z ≤ 99999) zs
 spells_small l done = tt
 spells_small l (literal h s) = (omega (arith, h.1), spells_small l s)
 spells_small l (stop s) = (omega arith, spells_small l s)
@@ -146,7 +146,7 @@ head_numeral : (t : Token) (w : Said) (z : ℤ) → said_of t ≡ w → head_num
 head_numeral t w z e h = head_numeral_by t z (is_number t.bytes) refl (ap head_number e ∙ h)
 
 -- the problem line that was accepted
-pub problem_line_lem : (s : ℕ) (line : List ℕ) (x y : Said) (v c : ℕ) → All (λ b. in_line b ≡ true) line → Four s (tokens s line) x y → head_number x ≡ Ok (pos v) → head_number y ≡ Ok (pos c) → Problem_line line v c
+pub problem_line_lem : (s : ℕ) (line : List ℕ) (x y : Said) (v c : ℕ) → AllByRecursion (λ b. in_line b ≡ true) line → Four s (tokens s line) x y → head_number x ≡ Ok (pos v) → head_number y ≡ Ok (pos c) → Problem_line line v c
 problem_line_lem s line x y v c a f hv hc =
     let q = first_at s line f.first (f.second ∷ f.third ∷ f.fourth ∷ []) f.words f.at_start in
     let p = p_bytes f.first.bytes f.is_p_lem in

@@ -1,6 +1,6 @@
 -- The words of bytes are those with which the grammar spaces them.
 use Rattle.std.proofs.Common.{◌≡◌, ℕ, suc, ◌+◌, ◌<◌, ◌≤◌, Bool, true, false, cond, List, [], ◌∷◌, ◌++◌, length, take, drop, sym, refl, ap, ◌∙◌, subst, true≢false, one-add, arith}
-use Rattle.std.specs.List.{prefix_len, AllByRecursion as All}
+use Rattle.std.specs.List.{prefix_len, AllByRecursion}
 use Rattle.std.proofs.lemmas.List.{take_at, drop_at}
 use Rattle.std.proofs.lemmas.Bool.{cond-true, cond-false, not-true, not-false, not_from_true, not_from_false}
 use Rattle.words.specs.Words.{white, dark, Token, token, lengthen, opens_word, tokens, skipped, letters}
@@ -12,7 +12,7 @@ bytes_of [] = []
 bytes_of (t ∷ ts) = t.bytes ∷ bytes_of ts
 
 -- a front that passes is counted whole where what follows it does not
-pub leading_front : (p : ℕ → Bool) (s rest : List ℕ) → All (λ b. p b ≡ true) s → prefix_len p rest ≡ 0 → prefix_len p (s ++ rest) ≡ length s
+pub leading_front : (p : ℕ → Bool) (s rest : List ℕ) → AllByRecursion (λ b. p b ≡ true) s → prefix_len p rest ≡ 0 → prefix_len p (s ++ rest) ≡ length s
 leading_front p [] rest h z = z
 leading_front p (b ∷ s) rest h z = cond-true _ _ _ h.0 ∙ one-add (prefix_len p (s ++ rest)) ∙ ap suc (leading_front p s rest h.1 z)
 
@@ -20,16 +20,16 @@ apart_letters : (rest : List ℕ) → Apart rest → prefix_len dark rest ≡ 0
 apart_letters [] h = refl
 apart_letters (b ∷ rest) h = cond-false _ _ _ (not_from_true (white b) h)
 
-dark-first : (w rest : List ℕ) → 0 < length w → All (λ b. dark b ≡ true) w → (prefix_len white (w ++ rest) ≡ 0) × (opens_word (w ++ rest) ≡ true)
+dark-first : (w rest : List ℕ) → 0 < length w → AllByRecursion (λ b. dark b ≡ true) w → (prefix_len white (w ++ rest) ≡ 0) × (opens_word (w ++ rest) ≡ true)
 dark-first [] rest h d = absurd (omega arith)
 dark-first (b ∷ w) rest h d = (cond-false _ _ _ (not-true (white b) d.0), d.0)
 
-white_only : (s : List ℕ) (p : ℕ) → All (λ b. white b ≡ true) s → tokens p s ≡ []
+white_only : (s : List ℕ) (p : ℕ) → AllByRecursion (λ b. white b ≡ true) s → tokens p s ≡ []
 white_only [] p h = refl
 white_only (b ∷ s) p h = cond-true _ _ _ h.0 ∙ white_only s (p + 1) h.1
 
 -- one word behind white space
-pub spaced_tokens : (p : ℕ) (s w rest : List ℕ) → All (λ b. white b ≡ true) s → 0 < length w → All (λ b. dark b ≡ true) w → Apart rest → tokens p (s ++ (w ++ rest)) ≡ token w (p + length s) ∷ tokens (p + length s + length w) rest
+pub spaced_tokens : (p : ℕ) (s w rest : List ℕ) → AllByRecursion (λ b. white b ≡ true) s → 0 < length w → AllByRecursion (λ b. dark b ≡ true) w → Apart rest → tokens p (s ++ (w ++ rest)) ≡ token w (p + length s) ∷ tokens (p + length s + length w) rest
 spaced_tokens p s w rest hs hn hw ha =
     let f = dark-first w rest hn hw in
     let n : skipped (s ++ (w ++ rest)) ≡ length s = leading_front white s (w ++ rest) hs f.0 in

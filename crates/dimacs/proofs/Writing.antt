@@ -1,6 +1,6 @@
 -- How the words of a table are laid one behind another.
 use Rattle.std.proofs.Common.{◌≡◌, ℕ, zero, suc, ◌+◌, ◌<◌, ◌≤◌, Bool, false, cond, leb, List, [], ◌∷◌, ◌++◌, length, get_or, take, drop, ℤ, pos, Ok, Err, sym, refl, ap, ◌∙◌, append_assoc, arith, length-append}
-use Rattle.std.specs.List.{flat_map, AllByRecursion as All}
+use Rattle.std.specs.List.{flat_map, AllByRecursion}
 use Rattle.std.specs.Fmt.{signed_decimal}
 use Rattle.std.proofs.lemmas.Fmt.{decimal_digit}
 use Rattle.std.proofs.lemmas.List.{at_drop_more, take_more, flat_map_more}
@@ -43,7 +43,7 @@ pub piece_is : (w : ℤ) (b : Bool) → is_zero w ≡ b → signed_decimal w ++ 
 piece_is w b e = ap (λ x. signed_decimal w ++ (cond x 10 32 ∷ [])) (sym e)
 
 -- the words of a clause are its line
-line_is : (v : ℕ) (c rest : List ℤ) → All (Literal v) c → words_text (c ++ (pos 0 ∷ rest)) ≡ clause_line c ++ words_text rest
+line_is : (v : ℕ) (c rest : List ℤ) → AllByRecursion (Literal v) c → words_text (c ++ (pos 0 ∷ rest)) ≡ clause_line c ++ words_text rest
 line_is v [] rest h = ap (λ l. (l ++ (10 ∷ [])) ++ words_text rest) (decimal_digit 0 (omega arith))
 line_is v (w ∷ c) rest h =
     ap (λ l. l ++ words_text (c ++ (pos 0 ∷ rest))) (sym (piece_is w false (literal_word w h.0.0)))
@@ -51,7 +51,7 @@ line_is v (w ∷ c) rest h =
     ∙ ap (λ l. signed_decimal w ++ (32 ∷ l)) (line_is v c rest h.1)
     ∙ sym (append_assoc (signed_decimal w) (32 ∷ clause_line c) (words_text rest))
 
-lines_are : (v : ℕ) (cs : List (List ℤ)) → All (Clause v) cs → words_text (spelled cs) ≡ flat_map clause_line cs
+lines_are : (v : ℕ) (cs : List (List ℤ)) → AllByRecursion (Clause v) cs → words_text (spelled cs) ≡ flat_map clause_line cs
 lines_are v [] h = refl
 lines_are v (c ∷ cs) h = line_is v c (spelled cs) h.0.1 ∙ ap (λ l. clause_line c ++ l) (lines_are v cs h.1)
 

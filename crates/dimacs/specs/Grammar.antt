@@ -1,6 +1,6 @@
 -- The texts that are rule tables: comment lines, then a problem line, then numbers that spell its clauses.
 use Rattle.std.specs.Prelude.{◌≡◌, ℕ, ◌<◌, ◌≤◌, true, List, [], ◌∷◌, ◌++◌, length, ℤ, pos, Ok, Err}
-use Rattle.std.specs.List.{AllByRecursion as All}
+use Rattle.std.specs.List.{AllByRecursion}
 use Rattle.cnf.specs.declared.refusal.Check.TheVariants.{WordsRoom}
 use Rattle.cnf.specs.Refusals.{refused}
 use Rattle.cnf.specs.Tables.{Legal}
@@ -18,8 +18,8 @@ Apart (b ∷ bs) = white b ≡ true
 
 -- the bytes are these words, with white space around them
 pub data Worded : List ℕ → List (List ℕ) → Type 0 where
-  blank : (s : List ℕ) → All (λ b. white b ≡ true) s → Worded s []
-  spaced : (s w rest : List ℕ) {ws : List (List ℕ)} → All (λ b. white b ≡ true) s → 0 < length w → All (λ b. dark b ≡ true) w → Apart rest → Worded rest ws → Worded (s ++ (w ++ rest)) (w ∷ ws)
+  blank : (s : List ℕ) → AllByRecursion (λ b. white b ≡ true) s → Worded s []
+  spaced : (s w rest : List ℕ) {ws : List (List ℕ)} → AllByRecursion (λ b. white b ≡ true) s → 0 < length w → AllByRecursion (λ b. dark b ≡ true) w → Apart rest → Worded rest ws → Worded (s ++ (w ++ rest)) (w ∷ ws)
 
 -- the word is `0`, or an optional `-`, a digit 1 to 9 and further digits, and its decimal value is z
 pub record Numeral (w : List ℕ) (z : ℤ) : Type 0 where
@@ -35,11 +35,11 @@ Numerals (w ∷ ws) (z ∷ zs) = Numeral w z × Numerals ws zs
 -- the bytes are comment lines, each begun by `c` and ended by byte 10, and then the rest
 pub data Commented : List ℕ → List ℕ → Type 0 where
   no_comment : {rest : List ℕ} → Commented rest rest
-  comment : (line : List ℕ) {bs rest : List ℕ} → All (λ b. in_line b ≡ true) line → Commented bs rest → Commented (99 ∷ (line ++ (10 ∷ bs))) rest
+  comment : (line : List ℕ) {bs rest : List ℕ} → AllByRecursion (λ b. in_line b ≡ true) line → Commented bs rest → Commented (99 ∷ (line ++ (10 ∷ bs))) rest
 
 -- a line of exactly the words `p`, at its first byte, `cnf`, and the numbers v and c
 pub record ProblemLine (line : List ℕ) (v c : ℕ) : Type 0 where
-  pub one_line : All (λ b. in_line b ≡ true) line
+  pub one_line : AllByRecursion (λ b. in_line b ≡ true) line
   pub behind : List ℕ
   pub opens : line ≡ 112 ∷ behind
   pub variables : List ℕ

@@ -3,6 +3,7 @@
 
 ghost use Rattle.std.specs.Prelude.{◌≤◌, length, IfOk};
 
+mod lent;
 mod pick;
 
 use crate::pick::answer;
@@ -12,9 +13,7 @@ use engine::answers::Move;
 use std::io;
 use std::io::{Read, Write};
 
-// Room for the words of every table, for the longest sheet, and for the trail.
-const WORDS: usize = 5_120;
-
+// Room for the longest sheet.
 const SHEET: usize = 2_048;
 
 // Fills the room from its front, until the input ends or the room is full.
@@ -38,7 +37,7 @@ fn read_input(input: &mut impl Read, room: &mut [u8]) -> io::Result<usize>
 fn main(rt: HostRuntime) -> io::Result<()> {
     let heap = rt.alloc();
     let mut text = vec![in heap; 0u8; MOST_BYTES + 1]?;
-    let mut words = vec![in heap; 0i32; WORDS]?;
+    let mut words = vec![in heap; 0i32; pick::WORDS]?;
     let mut trail = vec![in heap; Move {
         mode: 0,
         variable: 0,

@@ -7,7 +7,9 @@ ghost use Rattle.engine.specs.Steps.{dives_in};
 ghost use Rattle.rack.specs.Answers.{answer_to, sheet_of, sheet_for, run_on, bytes_of};
 ghost use Rattle.rack.specs.Parts.{bytes_in, Holds, counts_of, load_and_run};
 
+use crate::lent::answer_as_lent;
 use cnf::refusal::Refusal;
+use cnf::tally::MOST_VARIABLES;
 use dimacs::read::{Problem, read};
 use engine::answers::Move;
 use engine::engine::Engine;
@@ -17,6 +19,9 @@ use series::call::{Answer, Call, Part};
 use series::replay::replay;
 use sheet::print::print;
 use sheet::refused::refused_line;
+
+// Room for the words of every table.
+pub const WORDS: usize = 5_120;
 
 // The seed of the numbers, and the steps that a run is given.
 pub const SEED: u32 = 1;
@@ -157,8 +162,8 @@ fn print_text(
     }
 }
 
-// Writes the sheet, or the line of the first refusal, and gives the number of bytes.
-pub fn answer(
+// Writes the sheet, or the line of the first refusal, and gives the number of bytes, where all is lent that a text can need.
+fn answer_in_full(
     text: &[u8],
     words: &mut [i32],
     trail: &mut [Move],
@@ -174,5 +179,23 @@ pub fn answer(
     match print_text(text, words, trail, values, out) {
         Ok(count) => count,
         Err(refusal) => refused_line(refusal, out).unwrap_or(0),
+    }
+}
+
+// The same with whatever is lent: the whole answer where it is as much as the program lends, and else what can be done with it.
+pub fn answer(
+    text: &[u8],
+    words: &mut [i32],
+    trail: &mut [Move],
+    values: &mut [u8],
+    out: &mut [u8],
+) -> usize
+    ensures answer { length words.old ≡ 5120 → length trail.old ≡ 1000 → length values.old ≡ 256 → (result, out.new) ≡ answer_to text.now out.old }
+    ensures within { result ≤ length out.old }
+{
+    if words.len() == WORDS && trail.len() == BUDGET && values.len() == MOST_VARIABLES {
+        answer_in_full(text, words, trail, values, out)
+    } else {
+        answer_as_lent(text, words, trail, values, out)
     }
 }

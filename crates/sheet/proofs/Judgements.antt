@@ -1,7 +1,7 @@
 -- What an accepted table and assignment are.
 use Rattle.std.proofs.Common.{◌≡◌, ℕ, ◌+◌, ◌≤◌, Bool, true, false, cond, not, eqb, leb, List, [], ◌∷◌, length, ℤ, is_some, Some, None, Ok, Err, Option, Result, sym, refl, arith}
 use Rattle.std.proofs.lemmas.Bool.{leb-true, eqb-true, not-true, not-false}
-use Rattle.std.specs.List.{AllByRecursion as All}
+use Rattle.std.specs.List.{AllByRecursion}
 use Rattle.cnf.specs.declared.refusal.Check.TheVariants.{StartValues}
 use Rattle.cnf.specs.declared.refusal.Refusal.{Refusal}
 use Rattle.cnf.specs.Refusals.{refused}
@@ -11,7 +11,7 @@ use Rattle.cnf.proofs.Legal.{accepted_is_legal}
 use Rattle.sheet.specs.Sheets.{is_none}
 
 abbrev pub Bits : List ℕ → Type 0
-Bits bs = All (λ b. b ≤ 1) bs
+Bits bs = AllByRecursion (λ b. b ≤ 1) bs
 
 pub err≢ok : {A E : Type 0} (e : E) (x : A) → ◌≡◌ {A = Result A E} (Err e) (Ok x) → ⊥
 err≢ok e x h = let z : ◌≡◌ {A = ℕ} 0 1 = cc in omega arith
