@@ -1,8 +1,8 @@
 -- The second line of a sheet is its verdict.
-use Rattle.std.proofs.Common.{◌≡◌, ℕ, ◌+◌, ◌/◌, ◌%◌, ◌^◌, ◌<◌, ◌≤◌, Bool, true, false, List, [], ◌∷◌, ◌++◌, ℤ, Some, None, codes, decimal, Option, sym, refl, ap, ◌∙◌, append_assoc, arith}
+use Rattle.std.proofs.Common.{◌≡◌, ℕ, ◌+◌, ◌%◌, ◌^◌, ◌<◌, Bool, true, false, List, [], ◌∷◌, ◌++◌, ℤ, Some, None, codes, decimal, Option, sym, refl, ap, ◌∙◌, append_assoc, arith}
 use Rattle.std.proofs.lemmas.Fmt.{decimal_by_steps}
 use Rattle.std.proofs.lemmas.Bool.{cond-false, ne_eqb}
-use Rattle.cnf.specs.Promises.{AllSatisfied, NamesFirstBroken}
+use Rattle.cnf.specs.Promises.{NamesFirstBroken}
 use Rattle.cnf.specs.Tables.{clauses_of, values_of, first_unsatisfied}
 use Rattle.sheet.specs.Promises.{all_hold, Tells}
 use Rattle.sheet.specs.Sheets.{is_none}

@@ -11,8 +11,8 @@ use Rattle.sheet.specs.declared.sheet.Sheet.{Sheet}
 use Rattle.sheet.specs.Promises.{all_hold, Tells, Left, SeriesLeavesText}
 use Rattle.sheet.specs.Sheets.{no_room, sheet_of, is_none, begun_with, begun_by, begun, added_all, closed, due_of, fitted, printed_by, printed, ended, finished}
 use Rattle.sheet.specs.Texts.{head_text, value_part, sheet_text}
-use Rattle.sheet.proofs.Judgements.{Bits, err≢ok, Accepted, accepted}
-use Rattle.sheet.proofs.Series.{put_fits, add_texts, all_fit, Fit, all_only, tail_of, close_fits, close_only, line_of_values}
+use Rattle.sheet.proofs.Judgements.{Bits, err≢ok, accepted}
+use Rattle.sheet.proofs.Series.{put_fits, add_texts, all_fit, all_only, tail_of, close_fits, close_only, line_of_values}
 use Rattle.sheet.proofs.Verdicts.{head_tells}
 
 -- the head, what the additions write and what the closing writes

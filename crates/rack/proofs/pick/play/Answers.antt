@@ -12,26 +12,26 @@ use Rattle.rack.proofs.pick.play.Goals as goal
 use Rattle.rack.proofs.pick.play.Goals.{After-replay-engine}
 
 -- the generator is the one with the seed
-seeds : (c : After-replay-engine) → c.in-ok-new.field-0 ≡ holding 1
+seeds : (c : After-replay-engine) → c.in_ok-new.field-0 ≡ holding 1
 seeds c =
     let e = c.new.ensures.start in
-    let w = c.in-ok-new.was in
+    let w = c.in_ok-new.was in
     cc
 
 model_is : (c : After-replay-engine) → held c.replay-engine.result ≡ Some (run_on c.args.variables c.args.words.now).model
 model_is c =
     let few : c.args.variables ≤ 256 = c.requires.table.variables.1 in
-    c.replay-engine.ensures.gives.model ∙ ends 1 1000 c.args.variables c.args.words.now (replicate 256 0) _ c.load-and-run-calls.result c.load-and-run-calls.ensures c.in-ok-new.field-0 (seeds c) c.args.trail.now c.requires.table few (take-replicate c.args.variables 256 0 few) (omega arith) (omega (arith, c.requires.trail))
+    c.replay-engine.ensures.gives.model ∙ ends 1 1000 c.args.variables c.args.words.now (replicate 256 0) _ c.load_and_run-calls.result c.load_and_run-calls.ensures c.in_ok-new.field-0 (seeds c) c.args.trail.now c.requires.table few (take-replicate c.args.variables 256 0 few) (omega arith) (omega (arith, c.requires.trail))
 
 answer_is : (c : After-replay-engine) → get_or c.replay-engine.new.answers 1 (Ok Done) ≡ Ok (ran_as (counts (run_on c.args.variables c.args.words.now)))
 answer_is c =
     let few : c.args.variables ≤ 256 = c.requires.table.variables.1 in
-    let r = replies 1 1000 c.args.variables c.args.words.now (replicate 256 0) _ c.load-and-run-calls.result c.load-and-run-calls.ensures c.in-ok-new.field-0 (seeds c) c.args.trail.now c.requires.table few (take-replicate c.args.variables 256 0 few) (omega arith) (omega (arith, c.requires.trail)) in
+    let r = replies 1 1000 c.args.variables c.args.words.now (replicate 256 0) _ c.load_and_run-calls.result c.load_and_run-calls.ensures c.in_ok-new.field-0 (seeds c) c.args.trail.now c.requires.table few (take-replicate c.args.variables 256 0 few) (omega arith) (omega (arith, c.requires.trail)) in
     ap (λ l. get_or l 1 (Ok Done)) (c.replay-engine.ensures.gives.replies ∙ ap (λ l. l ++ drop (length l) (Ok Done ∷ Ok Done ∷ [])) r)
 
-pub read-values-requires : goal.read-values-requires
-read-values-requires c =
-    let e = model_is (goal.at.read-values-requires c).After-replay-engine in
+pub read_values-requires : goal.read_values-requires
+read_values-requires c =
+    let e = model_is (goal.at.read_values-requires c).After-replay-engine in
     subst (λ o. Holds o (length c.args.values.now)) (sym e) (subst (λ n. Holds (Some (run_on c.args.variables c.args.words.now).model) n) (sym c.requires.values) (ran-holds 1 1000 c.args.variables c.args.words.now))
 
 pub counts-requires : goal.counts-requires
@@ -47,5 +47,5 @@ returns c =
     let k = (goal.at.returns c).After-replay-engine in
     record {
       counts = ap Ok (c.counts.ensures ∙ ap counts_of (answer_is k));
-      values = c.read-values.ensures ∙ ap bytes_in (model_is k);
+      values = c.read_values.ensures ∙ ap bytes_in (model_is k);
     }

@@ -12,9 +12,9 @@ accepted c = sym c.read.ensures.answer ∙ c.in-Ok.is
 spelled : (c : In-Ok) → take c.in-Ok.problem.words c.read.new.words ≡ text_words c.args.text.now
 spelled c = ap (take c.in-Ok.problem.words) c.read.ensures.table ∙ read_words c.args.text.now c.args.words.now c.in-Ok.problem (accepted c) (c.read.ensures.grammar.only c.in-Ok.problem (accepted c)).1
 
-pub print-found-requires : goal.print-found-requires
-print-found-requires c =
-    let k = (goal.at.print-found-requires c).In-Ok in
+pub print_found-requires : goal.print_found-requires
+print_found-requires c =
+    let k = (goal.at.print_found-requires c).In-Ok in
     let g = c.read.ensures.grammar.only c.in-Ok.problem (accepted k) in
     record {
       room = omega (arith, g.2, c.read.auto.words);
@@ -26,6 +26,6 @@ print-found-requires c =
 pub returns-in-Ok : goal.returns-in-Ok
 returns-in-Ok c =
     let k = (goal.at.returns-in-Ok c).In-Ok in
-    c.print-found.ensures
+    c.print_found.ensures
     ∙ ap (λ ws. sheet_for c.in-Ok.problem.variables ws c.args.out.now) (spelled k)
     ∙ ap (λ r. sheet_of c.args.text.now r c.args.out.now) (sym (accepted k) ∙ ap (read_answer c.args.text.now) c.requires.words)

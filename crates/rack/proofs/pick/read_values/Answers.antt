@@ -10,7 +10,7 @@ pub loop-x-preserved : goal.loop-x-preserved
 loop-x-preserved c =
     let o = held c.args.engine.now in
     let n = length c.args.values.now in
-    let y = c.from.ensures ∙ ap bool_byte (c.unwrap-or.ensures ∙ ap (λ r. result_unwrap_or r false) c.value.ensures) in
+    let y = c.from.ensures ∙ ap bool_byte (c.unwrap_or.ensures ∙ ap (λ r. result_unwrap_or r false) c.value.ensures) in
     read_more c.loop-x.values (bytes_in o) c.loop-x.x c.from.result (omega arith) (bytes_long o n c.requires ∙ sym c.loop-x.auto.values) c.loop-x.invariant (y ∙ byte_at o n c.loop-x.x c.requires c.loop-x-test.true)
 
 pub returns : goal.returns

@@ -6,48 +6,48 @@ use Rattle.sheet.specs.Texts.{sheet_text}
 use Rattle.sheet.proofs.Judgements.{accepted, said_none}
 use Rattle.sheet.proofs.Whole.{series_leaves_text, printed_short, begin_accepts, series_prints, printed_tells}
 use Rattle.sheet.proofs.print.print.Goals as goal
-use Rattle.sheet.proofs.print.print.Goals.{After-is-none-satisfied}
+use Rattle.sheet.proofs.print.print.Goals.{After-is_none-satisfied}
 
-told : (c : After-is-none-satisfied) → judged c.args.variables c.args.words.now c.args.assignment.now ≡ Ok c.in-ok-check.field-0
-told c = sym c.check.ensures.value ∙ c.in-ok-check.was
+told : (c : After-is_none-satisfied) → judged c.args.variables c.args.words.now c.args.assignment.now ≡ Ok c.in_ok-check.field-0
+told c = sym c.check.ensures.value ∙ c.in_ok-check.was
 
-says : (c : After-is-none-satisfied) → c.is-none-satisfied.result ≡ is_none c.in-ok-check.field-0
-says c = said_none c.in-ok-check.field-0 c.is-none-satisfied.result c.is-none-satisfied.ensures
+says : (c : After-is_none-satisfied) → c.is_none-satisfied.result ≡ is_none c.in_ok-check.field-0
+says c = said_none c.in_ok-check.field-0 c.is_none-satisfied.result c.is_none-satisfied.ensures
 
-pub sheet-fits-requires : goal.sheet-fits-requires
-sheet-fits-requires c =
-    let t = accepted c.args.variables c.args.words.now c.args.assignment.now c.in-ok-check.field-0 (told (goal.at.sheet-fits-requires c).After-is-none-satisfied) in
+pub sheet_fits-requires : goal.sheet_fits-requires
+sheet_fits-requires c =
+    let t = accepted c.args.variables c.args.words.now c.args.assignment.now c.in_ok-check.field-0 (told (goal.at.sheet_fits-requires c).After-is_none-satisfied) in
     omega (arith, t.long, t.variables)
 
 -- the text that was tested for room is the one to print
-same : (c : After-is-none-satisfied) → length (sheet_text c.args.steps c.args.dives c.is-none-satisfied.result c.args.assignment.now) ≡ length (sheet_text c.args.steps c.args.dives (is_none c.in-ok-check.field-0) c.args.assignment.now)
+same : (c : After-is_none-satisfied) → length (sheet_text c.args.steps c.args.dives c.is_none-satisfied.result c.args.assignment.now) ≡ length (sheet_text c.args.steps c.args.dives (is_none c.in_ok-check.field-0) c.args.assignment.now)
 same c = ap (λ b. length (sheet_text c.args.steps c.args.dives b c.args.assignment.now)) (says c)
 
-pub returns-then-not-sheet-fits : goal.returns-then-not-sheet-fits
-returns-then-not-sheet-fits c =
-    let k = (goal.at.returns-then-not-sheet-fits c).After-is-none-satisfied in
-    let long = subst (λ n. length c.args.out.now < n) (same k) (leb-false _ _ (sym c.if-not-sheet-fits.ensures)) in
+pub returns-then-not-sheet_fits : goal.returns-then-not-sheet_fits
+returns-then-not-sheet_fits c =
+    let k = (goal.at.returns-then-not-sheet_fits c).After-is_none-satisfied in
+    let long = subst (λ n. length c.args.out.now < n) (same k) (leb-false _ _ (sym c.if-not-sheet_fits.ensures)) in
     record {
-      text = printed_short c.args.steps c.args.dives c.args.variables c.args.words.now c.args.assignment.now c.args.out.now c.in-ok-check.field-0 (told k) long;
+      text = printed_short c.args.steps c.args.dives c.args.variables c.args.words.now c.args.assignment.now c.args.out.now c.in_ok-check.field-0 (told k) long;
       tells = tt;
       series = series_leaves_text c.args.steps c.args.dives c.args.variables c.args.words.now c.args.assignment.now c.args.out.now (omega arith) (omega arith) c.check.ensures.names;
     }
 
-pub returns-in-err-sheet : goal.returns-in-err-sheet
-returns-in-err-sheet c =
-    let k = (goal.at.returns-in-err-sheet c).After-is-none-satisfied in
-    let room = subst (λ n. n ≤ length c.args.out.now) (same k) (leb-true _ _ (sym c.if-not-sheet-fits.ensures)) in
-    absurd (begin_accepts c.args.steps c.args.dives c.args.variables c.args.words.now c.args.assignment.now c.args.out.now c.in-ok-check.field-0 (told k) room c.begin.result c.begin.new.out c.in-err-sheet.field-0.0 c.begin.ensures c.in-err-sheet.was)
+pub returns-in_err-sheet : goal.returns-in_err-sheet
+returns-in_err-sheet c =
+    let k = (goal.at.returns-in_err-sheet c).After-is_none-satisfied in
+    let room = subst (λ n. n ≤ length c.args.out.now) (same k) (leb-true _ _ (sym c.if-not-sheet_fits.ensures)) in
+    absurd (begin_accepts c.args.steps c.args.dives c.args.variables c.args.words.now c.args.assignment.now c.args.out.now c.in_ok-check.field-0 (told k) room c.begin.result c.begin.new.out c.in_err-sheet.field-0.0 c.begin.ensures c.in_err-sheet.was)
 
 pub returns : goal.returns
 returns c =
-    let k = (goal.at.returns c).After-is-none-satisfied in
-    let room = subst (λ n. n ≤ length c.args.out.now) (same k) (leb-true _ _ (sym c.if-not-sheet-fits.ensures)) in
+    let k = (goal.at.returns c).After-is_none-satisfied in
+    let room = subst (λ n. n ≤ length c.args.out.now) (same k) (leb-true _ _ (sym c.if-not-sheet_fits.ensures)) in
     let values = c.due.ensures ∙ ap (λ b. due_of b c.args.assignment.now) (says k) in
     let text =
     c.fill.ensures
-    ∙ ap (λ bs. finished (added_all c.in-ok-sheet.sheet bs c.begin.new.out)) values
-    ∙ series_prints c.args.steps c.args.dives c.args.variables c.args.words.now c.args.assignment.now c.args.out.now c.in-ok-check.field-0 (told k) room c.begin.result c.in-ok-sheet.sheet c.begin.new.out c.begin.ensures c.in-ok-sheet.was in
+    ∙ ap (λ bs. finished (added_all c.in_ok-sheet.sheet bs c.begin.new.out)) values
+    ∙ series_prints c.args.steps c.args.dives c.args.variables c.args.words.now c.args.assignment.now c.args.out.now c.in_ok-check.field-0 (told k) room c.begin.result c.in_ok-sheet.sheet c.begin.new.out c.begin.ensures c.in_ok-sheet.was in
     record {
       text = text;
       tells = printed_tells c.args.steps c.args.dives c.args.variables c.args.words.now c.args.assignment.now c.args.out.now c.fill.result c.fill.new.out text (omega arith) (omega arith) c.check.ensures.names;

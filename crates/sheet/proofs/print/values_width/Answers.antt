@@ -1,4 +1,4 @@
-use Rattle.std.proofs.Common.{◌+◌, length, ap, arith, rules}
+use Rattle.std.proofs.Common.{◌+◌, length, ap, arith}
 use Rattle.std.proofs.lemmas.List.{at_drop_all}
 use Rattle.sheet.specs.Texts.{values_from}
 use Rattle.sheet.proofs.Widths.{width_more}
