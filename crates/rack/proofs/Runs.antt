@@ -1,9 +1,8 @@
 -- The load of a legal table and the run on it are accepted, and what they come to.
-use Rattle.std.proofs.Common.{◌≡◌, ℕ, zero, suc, ◌+◌, ◌≤◌, Bool, true, cond, List, [], ◌∷◌, length, take, drop, replicate, ℤ, Some, None, Ok, Err, Option, Result, sym, refl, ap, ◌∙◌, arith}
+use Rattle.std.proofs.Common.{◌≡◌, ℕ, zero, suc, ◌+◌, ◌≤◌, List, [], ◌∷◌, length, take, replicate, ℤ, Some, None, Ok, refl, ap, ◌∙◌, arith}
 use Rattle.std.proofs.lemmas.List.{length-replicate, take_all}
 use Rattle.std.proofs.lemmas.List.Sums.{count_by-le-length}
 use Rattle.std.proofs.lemmas.Bool.{cond-true, le-leb, and_from, eq-eqb}
-use Rattle.cnf.specs.declared.refusal.Refusal.{Refusal}
 use Rattle.cnf.specs.Scans.{and_then, bytes_from, start_checked}
 use Rattle.cnf.specs.Tables.{Legal, clauses_of}
 use Rattle.cnf.proofs.Legal.{legal_is_accepted}
@@ -19,16 +18,15 @@ use Rattle.engine.specs.declared.answers.Move.{Move}
 use Rattle.engine.specs.declared.answers.Stepped.{Stepped}
 use Rattle.engine.specs.declared.answers.Stepped.TheVariants as step
 use Rattle.engine.specs.Steps.{Run, run, stepped, offer, left, continued, is_dive, dives_in, counts}
-use Rattle.engine.specs.Calls.{Reply, replied, load_reply, Drawing, run_checked, ticks_left, run_reply, run_with}
+use Rattle.engine.specs.Calls.{replied, load_reply, run_checked, ticks_left, run_reply, run_with}
 use Rattle.engine.proofs.Going.{run_sound}
 use Rattle.series.specs.declared.call.Part.{Part}
 use Rattle.series.specs.declared.call.Call.{Call}
 use Rattle.series.specs.declared.call.Call.TheVariants as call
-use Rattle.series.specs.declared.call.Answer.{Answer}
 use Rattle.series.specs.declared.call.Answer.TheVariants as answer
 use Rattle.series.specs.Laws.{Event}
 use Rattle.series.specs.Laws as laws
-use Rattle.series.specs.Series.{lent, given, ran_as, Performed, told, load_with, accepted, run_events_of, perform, Went, onto, went}
+use Rattle.series.specs.Series.{lent, given, ran_as, Performed, told, load_with, perform, onto, went}
 use Rattle.series.specs.Promises.{series}
 use Rattle.rack.specs.Answers.{begins, ran}
 use Rattle.rack.specs.Parts.{Holds, load_and_run}

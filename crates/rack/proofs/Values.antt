@@ -1,12 +1,12 @@
 -- The bytes of an engine's values, read one after another.
-use Rattle.std.proofs.Common.{◌≡◌, ℕ, ◌+◌, ◌-◌, ◌<◌, ◌≤◌, Bool, false, List, [], ◌∷◌, ◌++◌, map, length, get_or, take, set, Some, Ok, Option, sym, refl, ap, ◌∙◌, subst, arith}
+use Rattle.std.proofs.Common.{◌≡◌, ℕ, ◌+◌, ◌-◌, ◌<◌, ◌≤◌, false, List, [], ◌∷◌, ◌++◌, length, get_or, take, set, Some, Ok, Option, sym, ap, ◌∙◌, subst, arith}
 use mir.Val.{bool_byte}
 use Rattle.std.proofs.lemmas.List.{length-map, get_or-map, take_more, take_more_set, take_all}
 use Rattle.std.proofs.lemmas.Bool.{cond-true, le-leb, and_from}
 use Rattle.std.specs.Result.{result_unwrap_or}
 use Rattle.cnf.specs.Scans.{and_then}
 use Rattle.state.specs.Model.{Model, assignment}
-use Rattle.engine.specs.Calls.{of_variable, in_range}
+use Rattle.engine.specs.Calls.{of_variable}
 use Rattle.rack.specs.Answers.{bytes_of}
 use Rattle.rack.specs.Parts.{Holds, bytes_in}
 

@@ -1,4 +1,4 @@
-use Rattle.std.proofs.Common.{◌≡◌, ◌≤◌, length, sym, ap, ◌∙◌, subst, arith}
+use Rattle.std.proofs.Common.{◌≤◌, length, sym, ap, ◌∙◌, subst, arith}
 use Rattle.dimacs.specs.Reads.{read_answer}
 use Rattle.rack.specs.Answers.{or_line, count_of}
 use Rattle.rack.proofs.Answers.{Within, sheet_within, line_within, counted, counted_within}
