@@ -3,7 +3,7 @@
 
 ghost use Rattle.std.specs.Prelude.{◌≤◌, length, IfOk};
 
-mod lent;
+mod full;
 mod pick;
 
 use crate::pick::answer;

@@ -1,13 +1,8 @@
 // The answer of the program to a text.
-ghost use Rattle.std.specs.Prelude.{◌≡◌, ◌≤◌, length, take, Ok};
-ghost use Rattle.cnf.specs.Tables.{Legal};
-ghost use Rattle.dimacs.specs.Reads.{read_answer};
-ghost use Rattle.engine.specs.Engines.{held};
-ghost use Rattle.engine.specs.Steps.{dives_in};
-ghost use Rattle.rack.specs.Answers.{answer_to, sheet_of, sheet_for, run_on, bytes_of};
-ghost use Rattle.rack.specs.Parts.{bytes_in, Holds, counts_of, load_and_run};
+ghost use Rattle.std.specs.Prelude.{◌≡◌, ◌≤◌, length};
+ghost use Rattle.rack.specs.Answers.{answer_to};
 
-use crate::lent::answer_as_lent;
+use crate::full::answer_in_full;
 use cnf::refusal::Refusal;
 use cnf::tally::MOST_VARIABLES;
 use dimacs::read::{Problem, read};
@@ -29,35 +24,39 @@ pub const SEED: u32 = 1;
 pub const BUDGET: usize = 1_000;
 
 // The steps and the dives that a run answered.
-fn counts(answer: Result<Answer, Refusal>) -> (u32, u32)
-    requires steps { (counts_of answer).0 ≤ 1000 }
-    requires dives { (counts_of answer).1 ≤ 1000 }
-    ensures { result ≡ counts_of answer }
-{
-    match answer {
-        Ok(Answer::Ran(_, steps, dives)) => (steps as u32, dives as u32),
-        _ => (0, 0),
+fn counts(answer: Result<Answer, Refusal>) -> Result<(u32, u32), Refusal> {
+    match answer? {
+        Answer::Ran(_, steps, dives) if steps <= BUDGET && dives <= BUDGET => {
+            Ok((steps as u32, dives as u32))
+        }
+        _ => Ok((0, 0)),
     }
 }
 
 // The values of the engine's variables, one byte each.
-fn read_values(engine: &Engine, values: &mut [u8])
-    requires { Holds (held engine.now) (length values.old) }
-    ensures { values.new ≡ bytes_in (held engine.now) }
-{
+fn read_values(engine: &Engine, values: &mut [u8]) -> Result<(), Refusal> {
     for x in 0..values.len() {
-        values[x] = u8::from(engine.value(x + 1).unwrap_or(false));
+        values[x] = u8::from(engine.value(x + 1)?);
     }
+    Ok(())
 }
 
-// A load of so many words with every variable at 0, and a run.
-fn load_and_run(variables: usize, words: usize) -> [Call; 2]
-    ensures { result ≡ load_and_run variables words 1000 }
-{
-    [
+// Loads the table with every variable at 0, runs, and prints the sheet. There is a value lent for each variable.
+fn search(
+    variables: usize,
+    words: &[i32],
+    trail: &mut [Move],
+    values: &mut [u8],
+    out: &mut [u8],
+) -> Result<usize, Refusal> {
+    let start = [0u8; 256];
+    let calls = [
         Call::Load {
             variables,
-            words: Part { from: 0, to: words },
+            words: Part {
+                from: 0,
+                to: words.len(),
+            },
             start: Part {
                 from: 0,
                 to: variables,
@@ -68,24 +67,7 @@ fn load_and_run(variables: usize, words: usize) -> [Call; 2]
             source: 0,
             budget: BUDGET,
         },
-    ]
-}
-
-// Makes the run on the table, reads the values that it ends with, and gives its steps and its dives. There is a value lent for each variable.
-fn play(
-    variables: usize,
-    words: &[i32],
-    trail: &mut [Move],
-    values: &mut [u8],
-) -> Result<(u32, u32), Refusal>
-    requires table { Legal variables words.now }
-    requires trail { length trail.old ≡ 1000 }
-    requires values { length values.old ≡ variables }
-    ensures counts { result ≡ Ok (length (run_on variables words.now).moves, dives_in (run_on variables words.now).moves) }
-    ensures values { values.new ≡ bytes_of (run_on variables words.now).model }
-{
-    let start = [0u8; 256];
-    let calls = load_and_run(variables, words.len());
+    ];
     let mut sources = [Generator::new(SEED)?];
     let mut answers = [Ok(Answer::Done), Ok(Answer::Done)];
     let engine = replay(
@@ -97,24 +79,8 @@ fn play(
         trail,
         &mut answers,
     );
-    read_values(&engine, values);
-    Ok(counts(answers[1]))
-}
-
-// The sheet of the run on a table.
-fn solve(
-    variables: usize,
-    words: &[i32],
-    trail: &mut [Move],
-    values: &mut [u8],
-    out: &mut [u8],
-) -> Result<usize, Refusal>
-    requires table { Legal variables words.now }
-    requires trail { length trail.old ≡ 1000 }
-    requires values { length values.old ≡ variables }
-    ensures { (result, out.new) ≡ sheet_for variables words.now out.old }
-{
-    let (steps, dives) = play(variables, words, trail, values)?;
+    let (steps, dives) = counts(answers[1])?;
+    read_values(&engine, values)?;
     print(steps, dives, variables, words, values, out)
 }
 
@@ -125,16 +91,10 @@ fn print_found(
     trail: &mut [Move],
     values: &mut [u8],
     out: &mut [u8],
-) -> Result<usize, Refusal>
-    requires room { problem.words ≤ length words.now }
-    requires table { Legal problem.variables (take problem.words words.now) }
-    requires trail { length trail.old ≡ 1000 }
-    requires values { length values.old ≡ 256 }
-    ensures { (result, out.new) ≡ sheet_for problem.variables (take problem.words words.now) out.old }
-{
-    let count = problem.words;
-    let variables = problem.variables;
-    solve(
+) -> Result<usize, Refusal> {
+    let count = problem.words.min(words.len());
+    let variables = problem.variables.min(values.len());
+    search(
         variables,
         &words[0..count],
         trail,
@@ -143,46 +103,28 @@ fn print_found(
     )
 }
 
-// The sheet of the table that a text spells, or the first refusal.
-fn print_text(
-    text: &[u8],
-    words: &mut [i32],
-    trail: &mut [Move],
-    values: &mut [u8],
-    out: &mut [u8],
-) -> Result<usize, Refusal>
-    requires words { length words.old ≡ 5120 }
-    requires trail { length trail.old ≡ 1000 }
-    requires values { length values.old ≡ 256 }
-    ensures { (result, out.new) ≡ sheet_of text.now (read_answer text.now 5120) out.old }
-{
-    match read(text, words) {
-        Ok(problem) => print_found(problem, words, trail, values, out),
-        Err(fault) => Err(fault.into()),
-    }
-}
-
-// Writes the sheet, or the line of the first refusal, and gives the number of bytes, where all is lent that a text can need.
-fn answer_in_full(
+// Writes what can be made of what is lent: the sheet, or the line of the first refusal. No more is promised of it than that it fits.
+fn answer_as_lent(
     text: &[u8],
     words: &mut [i32],
     trail: &mut [Move],
     values: &mut [u8],
     out: &mut [u8],
 ) -> usize
-    requires words { length words.old ≡ 5120 }
-    requires trail { length trail.old ≡ 1000 }
-    requires values { length values.old ≡ 256 }
-    ensures answer { (result, out.new) ≡ answer_to text.now out.old }
-    ensures within { result ≤ length out.old }
+    ensures { result ≤ length out.old }
 {
-    match print_text(text, words, trail, values, out) {
+    let printed = match read(text, words) {
+        Ok(problem) => print_found(problem, words, trail, values, out),
+        Err(fault) => Err(fault.into()),
+    };
+    let written = match printed {
         Ok(count) => count,
         Err(refusal) => refused_line(refusal, out).unwrap_or(0),
-    }
+    };
+    written.min(out.len())
 }
 
-// The same with whatever is lent: the whole answer where it is as much as the program lends, and else what can be done with it.
+// Writes the sheet, or the line of the first refusal, and gives the number of bytes: the whole answer where as much is lent as the program lends.
 pub fn answer(
     text: &[u8],
     words: &mut [i32],

@@ -3,8 +3,8 @@ use Rattle.cnf.specs.Tables.{Legal}
 use Rattle.dimacs.specs.Reads.{read_answer, text_words}
 use Rattle.rack.specs.Answers.{sheet_for, sheet_of}
 use Rattle.rack.proofs.Answers.{read_words}
-use Rattle.rack.proofs.pick.print_text.Goals as goal
-use Rattle.rack.proofs.pick.print_text.Goals.{In-Ok}
+use Rattle.rack.proofs.full.print_text.Goals as goal
+use Rattle.rack.proofs.full.print_text.Goals.{In-Ok}
 
 accepted : (c : In-Ok) → read_answer c.args.text.now (length c.args.words.now) ≡ Ok c.in-Ok.problem
 accepted c = sym c.read.ensures.answer ∙ c.in-Ok.is

@@ -2,7 +2,7 @@ use Rattle.std.proofs.Common.{◌≤◌, length, sym, ap, ◌∙◌, subst, arit
 use Rattle.dimacs.specs.Reads.{read_answer}
 use Rattle.rack.specs.Answers.{or_line, count_of}
 use Rattle.rack.proofs.Answers.{Within, sheet_within, line_within, counted, counted_within}
-use Rattle.rack.proofs.pick.answer_in_full.Goals as goal
+use Rattle.rack.proofs.full.answer_in_full.Goals as goal
 
 pub returns-in-Ok : goal.returns-in-Ok
 returns-in-Ok c =

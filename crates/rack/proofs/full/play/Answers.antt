@@ -8,8 +8,8 @@ use Rattle.series.specs.Series.{ran_as}
 use Rattle.rack.specs.Answers.{begins, run_on}
 use Rattle.rack.specs.Parts.{bytes_in, counts_of, Holds}
 use Rattle.rack.proofs.Runs.{ends, replies, ran_few, ran_dives, ran-holds}
-use Rattle.rack.proofs.pick.play.Goals as goal
-use Rattle.rack.proofs.pick.play.Goals.{After-replay-engine}
+use Rattle.rack.proofs.full.play.Goals as goal
+use Rattle.rack.proofs.full.play.Goals.{After-replay-engine}
 
 -- the generator is the one with the seed
 seeds : (c : After-replay-engine) → c.in_ok-new.field-0 ≡ holding 1

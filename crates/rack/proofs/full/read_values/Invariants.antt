@@ -1,7 +1,7 @@
 use Rattle.std.proofs.Common.{◌≡◌, take}
 use Rattle.engine.specs.Engines.{held}
 use Rattle.rack.specs.Parts.{bytes_in}
-use Rattle.rack.proofs.pick.read_values.Given as goal
+use Rattle.rack.proofs.full.read_values.Given as goal
 
 -- the bytes so far are those of the first values
 abbrev pub invariant-loop-x : goal.invariant-loop-x

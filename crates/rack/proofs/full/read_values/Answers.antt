@@ -4,7 +4,7 @@ use Rattle.std.specs.Result.{result_unwrap_or}
 use Rattle.engine.specs.Engines.{held}
 use Rattle.rack.specs.Parts.{bytes_in}
 use Rattle.rack.proofs.Values.{byte_at, bytes_long, read_more, read_all}
-use Rattle.rack.proofs.pick.read_values.Goals as goal
+use Rattle.rack.proofs.full.read_values.Goals as goal
 
 pub loop-x-preserved : goal.loop-x-preserved
 loop-x-preserved c =
