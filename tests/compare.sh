@@ -4,8 +4,8 @@
 #
 #   tests/compare.sh [COUNT]
 #
-# RACK is the path of the program; if it is not set, target/bin/rack under the
-# root of the repository, which `rt check rack` makes.  SEED (1 if not set)
+# RACK is the path of the program; if it is not set, crates/rack/out/rack under the
+# root of the repository, which `rt run` in crates/rack makes.  SEED (1 if not set)
 # chooses another series of texts.
 #
 # Exit 0: no difference.  Exit 1: the first difference, with the text's number.
@@ -13,7 +13,7 @@
 set -u
 
 root=$(cd "$(dirname "$0")/.." && pwd)
-rack=${RACK:-$root/target/bin/rack}
+rack=${RACK:-$root/crates/rack/out/rack}
 count=${1:-1200}
 seed=${SEED:-1}
 
@@ -24,7 +24,7 @@ case $count in
     ;;
 esac
 if [ ! -x "$rack" ]; then
-    echo "compare: there is no program at $rack (rt check rack makes it, or set RACK)" >&2
+    echo "compare: there is no program at $rack (rt run in crates/rack makes it, or set RACK)" >&2
     exit 2
 fi
 
