@@ -18,7 +18,7 @@ fn show(rt: &HostRuntime, name: &str, out: &Bytes, written: Option<usize>) -> io
             println!(rt;
                 "{name}: {written} bytes, and every shorter buffer is refused and unaltered"
             )?;
-            return print!(rt, "{text}");
+            return print!(rt; "{text}");
         }
     }
     println!(rt; "{name}: no text")

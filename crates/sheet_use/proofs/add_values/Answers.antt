@@ -1,4 +1,4 @@
-use Rattle.std.proofs.Common.{Ok, Err, sym, ap, ◌∙◌}
+use Rattle.std.proofs.Common.{sym, ap, ◌∙◌}
 use Rattle.std.proofs.lemmas.List.{at_drop_all}
 use Rattle.sheet.specs.Sheets.{added_all}
 use Rattle.sheet.proofs.Additions.{added_more, added_stops}
@@ -6,7 +6,7 @@ use Rattle.sheet_use.proofs.add_values.Goals as goal
 
 pub loop-i-preserved : goal.loop-i-preserved
 loop-i-preserved c =
-    added_more c.loop-i.sheet c.args.values.now c.loop-i.out c.loop-i.i c.loop-i-test.true c.add-outcome.result.0 c.in-default.field-0 c.add-outcome.new.out (sym c.add-outcome.ensures ∙ ap (λ r. ((c.add-outcome.result.0, r), c.add-outcome.new.out)) c.in-default.is)
+    added_more c.loop-i.sheet c.args.values.now c.loop-i.out c.loop-i.i c.loop-i-test.true c.add-outcome.result.0 c.in_default.field-0 c.add-outcome.new.out (sym c.add-outcome.ensures ∙ ap (λ r. ((c.add-outcome.result.0, r), c.add-outcome.new.out)) c.in_default.is)
     ∙ c.loop-i.invariant
 
 pub returns-in-Err : goal.returns-in-Err
