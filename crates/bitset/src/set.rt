@@ -44,7 +44,8 @@ impl BitSet {
 
     // Whether a number is in the set.
     fn contains(&self, k: usize) -> bool
-        requires { (k < 1024) × (Counted self.now) }
+        requires inside { k < 1024 }
+        requires counted { Counted self.now }
         ensures { result ≡ member self.now k }
     {
         (self.words[k / 64] >> (k % 64)) & 1 == 1
@@ -52,7 +53,8 @@ impl BitSet {
 
     // Puts a number in, or takes it out.
     pub fn assign(&mut self, k: usize, present: bool)
-        requires { (k < 1024) × (Counted self.old) }
+        requires inside { k < 1024 }
+        requires counted { Counted self.old }
         ensures { Assigned k present self.old self.new }
     {
         if self.contains(k) != present {
@@ -67,7 +69,8 @@ impl BitSet {
 
     // The least member that is not below `from`, or none.
     pub fn first_from(&self, from: usize) -> Option<usize>
-        requires { (from ≤ 1024) × (Counted self.now) }
+        requires inside { from ≤ 1024 }
+        requires counted { Counted self.now }
         ensures { MatchOption result ((j : ℕ) → from ≤ j → member self.now j ≡ false) (λ k. First (member self.now) from k) }
     {
         let mut low = from % 64;
@@ -82,7 +85,9 @@ impl BitSet {
 
     // The least member that is not below `from`, where there is one.
     fn present_from(&self, from: usize) -> usize
-        requires { (from ≤ 1024) × ((Counted self.now) × (length (passing (member self.now) from) < length (passing (member self.now) 1024))) }
+        requires inside { from ≤ 1024 }
+        requires counted { Counted self.now }
+        requires left { length (passing (member self.now) from) < length (passing (member self.now) 1024) }
         ensures { First (member self.now) from result }
     {
         match self.first_from(from) {
@@ -93,7 +98,8 @@ impl BitSet {
 
     // The member at a place of the rising list of all.
     pub fn nth(&self, place: usize) -> usize
-        requires { (Counted self.now) × (place < length (passing (member self.now) 1024)) }
+        requires counted { Counted self.now }
+        requires inside { place < length (passing (member self.now) 1024) }
         ensures is { result ≡ slice_index (passing (member self.now) 1024) place }
         ensures inside { member self.now result ≡ true }
     {

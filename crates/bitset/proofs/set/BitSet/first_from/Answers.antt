@@ -37,5 +37,5 @@ pub returns : goal.returns
 returns c = λ j p.
     ⊎_elim
     (λ (a : j < 1024). c.loop-w.invariant.2 j p (omega (arith, c.loop-w-test.false)))
-    (λ (a : 1024 ≤ j). member_outside c.args.self.now j c.requires.1 a)
+    (λ (a : 1024 ≤ j). member_outside c.args.self.now j c.requires.counted a)
     (cases_lt j 1024)

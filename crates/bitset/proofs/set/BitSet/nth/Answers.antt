@@ -8,7 +8,7 @@ pub loop-init : goal.loop-init
 loop-init c = (refl, omega arith)
 
 pub present_from-at-requires : goal.present_from-at-requires
-present_from-at-requires c = (c.loop.invariant.1, (c.requires.0, omega (arith, c.loop.invariant.0, c.requires.1)))
+present_from-at-requires c = record { inside = c.loop.invariant.1; counted = c.requires.counted; left = omega (arith, c.loop.invariant.0, c.requires.inside) }
 
 pub loop-preserved : goal.loop-preserved
 loop-preserved c =
@@ -17,7 +17,7 @@ loop-preserved c =
     (omega (arith, passing_yes p c.present_from-at.result f.passes, passing_still p c.loop.at c.present_from-at.result f.from f.before, c.loop.invariant.0), omega (arith, f.below))
 
 pub present_from-requires : goal.present_from-requires
-present_from-requires c = (c.loop.invariant.1, (c.requires.0, omega (arith, c.loop.invariant.0, c.loop.auto.counter-end, c.requires.1)))
+present_from-requires c = record { inside = c.loop.invariant.1; counted = c.requires.counted; left = omega (arith, c.loop.invariant.0, c.loop.auto.counter-end, c.requires.inside) }
 
 pub returns : goal.returns
 returns c =

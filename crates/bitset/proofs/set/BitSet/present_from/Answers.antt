@@ -4,4 +4,4 @@ use Rattle.bitset.proofs.Passing.{passing_still}
 use Rattle.bitset.proofs.set.BitSet.present_from.Goals as goal
 
 pub unreachable-requires : goal.unreachable-requires
-unreachable-requires c = omega (arith, c.requires.1.1, passing_still (member c.args.self.now) c.args.from 1024 c.requires.0 (λ j l _. c.in-None.ensures j l))
+unreachable-requires c = omega (arith, c.requires.left, passing_still (member c.args.self.now) c.args.from 1024 c.requires.inside (λ j l _. c.in-None.ensures j l))
