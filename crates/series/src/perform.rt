@@ -1,5 +1,6 @@
 // One call of a series.
 ghost use Rattle.std.specs.Prelude.{◌≡◌, ℕ, List, []};
+ghost use Rattle.engine.specs.Calls.{weigh_reply};
 ghost use Rattle.engine.specs.Engines.{held};
 ghost use Rattle.series.specs.Series.{lent, look, load_with, restart_with, step_with, run_with, given, ran_as, answered, perform as performed};
 
@@ -139,6 +140,14 @@ fn done_answer(res: Result<(), Refusal>) -> Result<Answer, Refusal>
     Ok(Answer::Done)
 }
 
+// A weighing.
+fn weigh_once(engine: &mut Engine) -> Result<Answer, Refusal>
+    ensures reply { result ≡ given (λ _. Answer.Done) (weigh_reply (held engine.old)).answer }
+    ensures model { held engine.new ≡ (weigh_reply (held engine.old)).model }
+{
+    done_answer(engine.weigh())
+}
+
 // One call, lent words, starts, policies, sources and a trail.
 pub fn perform<P: Policy, S: Source>(
     engine: &mut Engine,
@@ -162,7 +171,7 @@ pub fn perform<P: Policy, S: Source>(
         } => load_from(engine, variables, words, part, starts, start),
         Call::Restart { start } => restart_from(engine, starts, start),
         Call::Flip { variable } => done_answer(engine.flip(variable)),
-        Call::Weigh => done_answer(engine.weigh()),
+        Call::Weigh => weigh_once(engine),
         Call::Step { policy, source } => step_with(engine, policies, sources, policy, source),
         Call::Run {
             policy,

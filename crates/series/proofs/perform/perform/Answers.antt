@@ -49,7 +49,7 @@ returns-in-Weigh g c =
     let ss = c.args.sources.now in
     let trail = c.args.trail.now in
     let e = ap (λ k. performed lv u c.args.words.now c.args.starts.now c.args.policies.now k o ss trail) c.in-Weigh.is in
-    record { reply = c.done_answer-in-Weigh.ensures ∙ ap (given (λ _. answer.Done)) c.weigh.ensures.answer ∙ sym (ap (λ p. p.reply) e); model = c.weigh.ensures.model ∙ sym (ap (λ p. p.model) e); sources = sym (ap (λ p. p.sources) e); trail = sym (ap (λ p. p.trail) e) }
+    record { reply = c.weigh_once.ensures.reply ∙ sym (ap (λ p. p.reply) e); model = c.weigh_once.ensures.model ∙ sym (ap (λ p. p.model) e); sources = sym (ap (λ p. p.sources) e); trail = sym (ap (λ p. p.trail) e) }
 
 pub returns-in-Step : goal.returns-in-Step
 unfolding performed
