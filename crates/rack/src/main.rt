@@ -1,7 +1,8 @@
 // Reads a rule table from standard input, looks for an assignment that satisfies it, and prints the result sheet.
 #![tactic(auto)]
 
-ghost use Rattle.std.specs.Prelude.{◌≤◌, length, IfOk};
+ghost use Rattle.std.specs.Prelude.{◌≡◌, ◌≤◌, length, IfOk};
+ghost use Rattle.rack.specs.Answers.{answer_to};
 
 mod full;
 mod pick;
@@ -34,6 +35,23 @@ fn read_input(input: &mut impl Read, room: &mut [u8]) -> io::Result<usize>
     Ok(filled.min(room.len()))
 }
 
+// The whole answer to a text: what calls this has to lend as much as it needs.
+fn whole_answer(
+    text: &[u8],
+    words: &mut [i32],
+    trail: &mut [Move],
+    values: &mut [u8],
+    out: &mut [u8],
+) -> usize
+    requires words { length words.old ≡ 5120 }
+    requires trail { length trail.old ≡ 1000 }
+    requires values { length values.old ≡ 256 }
+    ensures answer { (result, out.new) ≡ answer_to text.now out.old }
+    ensures within { result ≤ length out.old }
+{
+    answer(text, words, trail, values, out)
+}
+
 fn main(rt: HostRuntime) -> io::Result<()> {
     let heap = rt.alloc();
     let mut text = vec![in heap; 0u8; MOST_BYTES + 1]?;
@@ -47,7 +65,7 @@ fn main(rt: HostRuntime) -> io::Result<()> {
     let mut values = vec![in heap; 0u8; MOST_VARIABLES]?;
     let mut out = vec![in heap; 0u8; SHEET]?;
     let length = read_input(&mut rt.stdin(), &mut text)?;
-    let written = answer(
+    let written = whole_answer(
         &text[0..length],
         &mut words,
         &mut trail,
