@@ -1,5 +1,5 @@
 -- The numbers that refusals are printed with.
-use Rattle.std.specs.Prelude.{ℕ}
+use Rattle.std.specs.Prelude.{ℕ, List, ◌++◌, codes, decimal}
 use Rattle.cnf.specs.declared.refusal.Check.{Check}
 use Rattle.cnf.specs.declared.refusal.Check.TheVariants.{TextLength, ProblemLine, NumberForm, NumberSize, Limits, ClauseCount, VariableRange, EmptyClause, LiteralCount, WordsRoom, StartValues, HasFormula, InRange, TicksLeft, BudgetFits, SeedRange, BytesRoom, ValueDue}
 use Rattle.cnf.specs.declared.refusal.Refusal.{Refusal}
@@ -26,3 +26,7 @@ number_of ValueDue = 18
 
 abbrev pub refused : Check → ℕ → Refusal
 refused c p = record { check = c; place = p }
+
+-- the bytes by which a refusal is told: its number and its place
+abbrev pub told : Refusal → List ℕ
+told r = codes "refused " ++ decimal (number_of r.check) ++ codes " at " ++ decimal r.place

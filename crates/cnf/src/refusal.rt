@@ -1,46 +1,48 @@
 // What every call of the library refuses with.
-ghost use Rattle.std.specs.Prelude.{◌≡◌};
-ghost use Rattle.cnf.specs.Refusals.{number_of};
+ghost use Rattle.std.specs.Prelude.{◌≡◌, Some};
+ghost use Rattle.cnf.specs.Refusals.{number_of, refused, told};
+
+use std::fmt;
 
 // A question that a call asks of what it is given; a refusal names the first that is answered by a no.
 #[derive(Clone, Copy, Debug, PartialEq, Eq)]
 pub enum Check {
     // The text has at most 65,535 bytes.
-    TextLength,
+    TextLength = 1,
     // The first line that is no comment is a problem line.
-    ProblemLine,
+    ProblemLine = 2,
     // The word is a number.
-    NumberForm,
+    NumberForm = 3,
     // The number's magnitude is at most 99,999.
-    NumberSize,
+    NumberSize = 4,
     // The numbers of variables and of clauses are within their limits.
-    Limits,
+    Limits = 5,
     // There are exactly as many clauses as were said, and the last one is ended.
-    ClauseCount,
+    ClauseCount = 6,
     // The variable is one of the table's.
-    VariableRange,
+    VariableRange = 7,
     // The clause has a literal.
-    EmptyClause,
+    EmptyClause = 8,
     // There are at most 4,096 literals.
-    LiteralCount,
+    LiteralCount = 9,
     // The words table has a place for every word.
-    WordsRoom,
+    WordsRoom = 10,
     // The start has a byte for each variable, and each is 0 or 1.
-    StartValues,
+    StartValues = 11,
     // The engine has a formula.
-    HasFormula,
+    HasFormula = 12,
     // The variable, the clause or the place is within range.
-    InRange,
+    InRange = 13,
     // Ticks are left.
-    TicksLeft,
+    TicksLeft = 14,
     // The budget is at most 65,535, and the trail at least as long.
-    BudgetFits,
+    BudgetFits = 15,
     // The seed is 1 to 2,147,483,646.
-    SeedRange,
+    SeedRange = 16,
     // The bytes to be written fit.
-    BytesRoom,
+    BytesRoom = 17,
     // A value is due when one is added, and none is at closing.
-    ValueDue,
+    ValueDue = 18,
 }
 
 impl Check {
@@ -48,26 +50,14 @@ impl Check {
     pub fn number(self) -> u32
         ensures { result ≡ number_of self }
     {
-        match self {
-            Check::TextLength => 1,
-            Check::ProblemLine => 2,
-            Check::NumberForm => 3,
-            Check::NumberSize => 4,
-            Check::Limits => 5,
-            Check::ClauseCount => 6,
-            Check::VariableRange => 7,
-            Check::EmptyClause => 8,
-            Check::LiteralCount => 9,
-            Check::WordsRoom => 10,
-            Check::StartValues => 11,
-            Check::HasFormula => 12,
-            Check::InRange => 13,
-            Check::TicksLeft => 14,
-            Check::BudgetFits => 15,
-            Check::SeedRange => 16,
-            Check::BytesRoom => 17,
-            Check::ValueDue => 18,
-        }
+        self as u32
+    }
+
+    // What a call refuses with where this check gives a no at the place given.
+    pub fn at(self, place: usize) -> Refusal
+        ensures { result ≡ refused self place }
+    {
+        Refusal { check: self, place }
     }
 }
 
@@ -76,4 +66,14 @@ impl Check {
 pub struct Refusal {
     pub check: Check,
     pub place: usize,
+}
+
+impl fmt::Display for Refusal {
+    ghost output = { λ r. Some (told r) };
+
+    fn fmt<W: fmt::Write>(&self, f: &mut fmt::Formatter<W>) -> fmt::Result {
+        let number = self.check.number();
+        let place = self.place;
+        write!(f, "refused {number} at {place}")
+    }
 }
