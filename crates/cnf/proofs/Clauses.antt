@@ -1,10 +1,13 @@
 -- How the first unsatisfied clause of what is left of a table steps.
-use Rattle.std.proofs.Common.{◌≡◌, ℕ, zero, suc, ◌+◌, ◌-◌, ◌<◌, ◌≤◌, true, false, cond, not, eqb, ◌⊎◌, List, [], ◌∷◌, length, get_or, drop, ℤ, pos, negsuc, nat_abs, Some, None, sym, refl, ap, ◌∙◌, inl, inr, ⊎_elim, arith, w32, SFits, of_z}
+use Rattle.std.proofs.Common.{◌≡◌, ℕ, zero, suc, ◌+◌, ◌-◌, ◌<◌, ◌≤◌, Bool, true, false, cond, not, ◌||◌, List, [], ◌∷◌, length, get_or, take, drop, ℤ, pos, negsuc, nat_abs, Some, None, Option, sym, refl, ap, ◌∙◌, subst, arith, add-one, length-drop}
 use lib.Signed.{lt_z}
-use Rattle.std.proofs.lemmas.List.{at_drop_more, at_drop_all, get_or_past}
+use Rattle.std.proofs.lemmas.List.{at_drop_more, at_drop_all}
 use Rattle.std.proofs.lemmas.Bool.{cond-true, cond-false, lt-ltb, false≢true}
-use Rattle.cnf.specs.Tables.{Assignment, values_of, holds, is_zero, onto, clauses_of, rest, first_unsatisfied}
-use Rattle.cnf.proofs.Words.{zero_is, other_is}
+use Rattle.std.specs.List.{position_from}
+use Rattle.cnf.specs.Tables.{Assignment, Parted, holds, satisfied, is_zero, onto, clauses_of, first_unsatisfied}
+
+none≢some : (k : ℕ) → ◌≡◌ {A = Option ℕ} None (Some k) → ⊥
+none≢some k e = let z : ◌≡◌ {A = ℕ} 0 1 = cc in omega arith
 
 pub holds-zero : (a : Assignment) (w : ℤ) → nat_abs w ≡ 0 → false ≡ holds a w
 holds-zero a (pos zero) h = refl
@@ -21,66 +24,51 @@ holds_negated a (pos zero) ne t = absurd (ne refl)
 holds_negated a (pos (suc n)) ne t = absurd (false≢true (sym t ∙ lt-ltb 0 (suc n) (omega arith)))
 holds_negated a (negsuc n) ne t = ap (λ x. not (a x)) (omega arith)
 
-pub value_past : (start : List ℕ) (k : ℕ) → length start ≤ k → false ≡ values_of start k
-value_past start k h = ap (λ v. eqb v 1) (sym (get_or_past start k 0 h))
+-- the first 0 ends the first clause
+pub part_at : (ws : List ℤ) (k j : ℕ) → position_from is_zero k ws ≡ Some j → (i : ℕ) × (j ≡ k + i) × (i < length ws) × (clauses_of ws ≡ take i ws ∷ clauses_of (drop (suc i) ws))
+part_at [] k j e = absurd (none≢some j e)
+part_at (w ∷ ws) k j e = by (is_zero w) (part_at ws (k + 1) j) refl e
+  where
+    by : (b : Bool) → (position_from is_zero (k + 1) ws ≡ Some j → (i : ℕ) × (j ≡ (k + 1) + i) × (i < length ws) × (clauses_of ws ≡ take i ws ∷ clauses_of (drop (suc i) ws))) → is_zero w ≡ b → cond b (Some k) (position_from is_zero (k + 1) ws) ≡ Some j → (i : ℕ) × (j ≡ k + i) × (i < suc (length ws)) × (cond (is_zero w) ([] ∷ clauses_of ws) (onto w (clauses_of ws)) ≡ take i (w ∷ ws) ∷ clauses_of (drop (suc i) (w ∷ ws)))
+    by true more z e = let q : k ≡ j = cc in (0, omega arith, omega arith, cond-true _ _ _ z)
+    by false more z e =
+        let p = more e in
+        (suc p.0, omega (arith, p.1), omega (arith, p.2), cond-false _ _ _ z ∙ ap (onto w) p.3)
 
--- the first clause and what follows it, or no clause at all
-abbrev Split : List (List ℤ) → List (List ℤ) → Type 0
-Split cs ds = ((cs ≡ []) × (ds ≡ [])) ⊎ ((c : List ℤ) × (cs ≡ c ∷ ds))
+-- with no 0 there is no clause
+pub part_none : (ws : List ℤ) (k : ℕ) → position_from is_zero k ws ≡ None → clauses_of ws ≡ []
+part_none [] k e = refl
+part_none (w ∷ ws) k e = by (is_zero w) (part_none ws (k + 1)) refl e
+  where
+    by : (b : Bool) → (position_from is_zero (k + 1) ws ≡ None → clauses_of ws ≡ []) → is_zero w ≡ b → cond b (Some k) (position_from is_zero (k + 1) ws) ≡ None → cond (is_zero w) ([] ∷ clauses_of ws) (onto w (clauses_of ws)) ≡ []
+    by true more z e = absurd (none≢some k (sym e))
+    by false more z e = cond-false _ _ _ z ∙ ap (onto w) (more e)
 
-split : (ws : List ℤ) → Split (clauses_of ws) (clauses_of (rest ws))
-split [] = inl (refl, refl)
-split (w ∷ ws) =
-    elim (is_zero w) as (λ b. Split (cond b ([] ∷ clauses_of ws) (onto w (clauses_of ws))) (clauses_of (cond b ws (rest ws)))) [
-      | true ↦ inr ([], refl)
-      | false ↦ ⊎_elim (λ h. inl (ap (onto w) h.0, h.1)) (λ h. inr (w ∷ h.0, ap (onto w) h.1)) (split ws)
-    ]
+pub parted : (ws : List ℤ) (i : ℕ) → position_from is_zero 0 ws ≡ Some i → Parted ws (take i ws) (drop (i + 1) ws)
+parted ws i e =
+    let p = part_at ws 0 i e in
+    let q : p.0 ≡ i = omega (arith, p.1) in
+    let l : i < length ws = omega (arith, p.1, p.2) in
+    record {
+      clauses = rw (add-one) (subst (λ n. clauses_of ws ≡ take n ws ∷ clauses_of (drop (suc n) ws)) q p.3);
+      shorter = omega (arith, length-drop (i + 1) ws);
+    }
 
-module _ (a : Assignment) where
-  -- at a 0 the clause has no true literal
-  stops_at : (n : ℕ) (w : ℤ) (ws : List ℤ) → is_zero w ≡ true → first_unsatisfied a n (clauses_of (w ∷ ws)) ≡ Some n
-  stops_at n w ws z = ap (first_unsatisfied a n) (cond-true _ _ _ z)
+-- what the literals of a clause say, from the place i on
+module _ (a : Assignment) (c : List ℤ) (i : ℕ) where
+  pub holds_none : i < length c → false ≡ holds a (get_or c i (pos 0)) → satisfied a (drop (i + 1) c) ≡ satisfied a (drop i c)
+  holds_none h f = sym (at_drop_more (satisfied a) c i (pos 0) h ∙ ap (λ b. b || satisfied a (drop (i + 1) c)) (sym f))
 
-  -- a false literal changes nothing
-  false-onto : (n : ℕ) (w : ℤ) (cs : List (List ℤ)) → holds a w ≡ false → first_unsatisfied a n (onto w cs) ≡ first_unsatisfied a n cs
-  false-onto n w [] f = refl
-  false-onto n w (c ∷ cs) f = rw f
+  pub holds_here : i < length c → true ≡ holds a (get_or c i (pos 0)) → satisfied a (drop i c) ≡ true
+  holds_here h t = at_drop_more (satisfied a) c i (pos 0) h ∙ ap (λ b. b || satisfied a (drop (i + 1) c)) (sym t)
 
-  false_more : (n : ℕ) (w : ℤ) (ws : List ℤ) → is_zero w ≡ false → holds a w ≡ false → first_unsatisfied a n (clauses_of (w ∷ ws)) ≡ first_unsatisfied a n (clauses_of ws)
-  false_more n w ws z f = ap (first_unsatisfied a n) (cond-false _ _ _ z) ∙ false-onto n w (clauses_of ws) f
+  pub holds_past : length c ≤ i → satisfied a (drop i c) ≡ false
+  holds_past h = at_drop_all (satisfied a) c i h
 
-  -- after a true literal the next clause decides
-  true_more : (n : ℕ) (w : ℤ) (ws : List ℤ) → is_zero w ≡ false → holds a w ≡ true → first_unsatisfied a n (clauses_of (w ∷ ws)) ≡ first_unsatisfied a (n + 1) (clauses_of (rest (w ∷ ws)))
-  true_more n w ws z t =
-      ap (first_unsatisfied a n) (cond-false _ _ _ z)
-      ∙ ⊎_elim
-      (λ h. ap (λ cs. first_unsatisfied a n (onto w cs)) h.0 ∙ sym (ap (first_unsatisfied a (n + 1)) h.1))
-      (λ h. ap (λ cs. first_unsatisfied a n (onto w cs)) h.1 ∙ rw t)
-      (split ws)
-      ∙ sym (ap (λ l. first_unsatisfied a (n + 1) (clauses_of l)) (cond-false _ _ _ z))
+-- the first clause of the words decides, or those behind it do
+module _ (a : Assignment) (n : ℕ) (ws c ds : List ℤ) (p : Parted ws c ds) where
+  pub first_fails : satisfied a c ≡ false → Some n ≡ first_unsatisfied a n (clauses_of ws)
+  first_fails f = sym (ap (first_unsatisfied a n) p.clauses ∙ cond-false _ _ _ f)
 
--- the same at the place i of a table
-module _ (ws : List ℤ) (i : ℕ) (h : i < length ws) where
-  pub rest-zero : SFits w32 (get_or ws i (pos 0)) → of_z w32 (get_or ws i (pos 0)) ≡ 0 → drop (i + 1) ws ≡ rest (drop i ws)
-  rest-zero f z = sym (at_drop_more rest ws i (pos 0) h ∙ cond-true _ _ _ (zero_is (get_or ws i (pos 0)) f z))
-
-  pub rest_more : (of_z w32 (get_or ws i (pos 0)) ≡ 0 → ⊥) → rest (drop (i + 1) ws) ≡ rest (drop i ws)
-  rest_more z = sym (at_drop_more rest ws i (pos 0) h ∙ cond-false _ _ _ (other_is (get_or ws i (pos 0)) z))
-
-  module _ (a : Assignment) (n : ℕ) where
-    here : first_unsatisfied a n (clauses_of (drop i ws)) ≡ first_unsatisfied a n (clauses_of (get_or ws i (pos 0) ∷ drop (i + 1) ws))
-    here = at_drop_more (λ l. first_unsatisfied a n (clauses_of l)) ws i (pos 0) h
-
-    pub left-zero : SFits w32 (get_or ws i (pos 0)) → of_z w32 (get_or ws i (pos 0)) ≡ 0 → Some n ≡ first_unsatisfied a n (clauses_of (drop i ws))
-    left-zero f z = sym (here ∙ stops_at a n (get_or ws i (pos 0)) (drop (i + 1) ws) (zero_is (get_or ws i (pos 0)) f z))
-
-    pub left_false : (of_z w32 (get_or ws i (pos 0)) ≡ 0 → ⊥) → false ≡ holds a (get_or ws i (pos 0)) → first_unsatisfied a n (clauses_of (drop (i + 1) ws)) ≡ first_unsatisfied a n (clauses_of (drop i ws))
-    left_false z f = sym (here ∙ false_more a n (get_or ws i (pos 0)) (drop (i + 1) ws) (other_is (get_or ws i (pos 0)) z) (sym f))
-
-    pub left-true : (j : ℕ) → drop j ws ≡ rest (drop i ws) → (of_z w32 (get_or ws i (pos 0)) ≡ 0 → ⊥) → true ≡ holds a (get_or ws i (pos 0)) → first_unsatisfied a (n + 1) (clauses_of (drop j ws)) ≡ first_unsatisfied a n (clauses_of (drop i ws))
-    left-true j e z t =
-        ap (λ l. first_unsatisfied a (n + 1) (clauses_of l)) (e ∙ at_drop_more rest ws i (pos 0) h)
-        ∙ sym (here ∙ true_more a n (get_or ws i (pos 0)) (drop (i + 1) ws) (other_is (get_or ws i (pos 0)) z) (sym t))
-
-pub left_none : (ws : List ℤ) (i : ℕ) (a : Assignment) (n : ℕ) → length ws ≤ i → None ≡ first_unsatisfied a n (clauses_of (drop i ws))
-left_none ws i a n h = sym (at_drop_all (λ l. first_unsatisfied a n (clauses_of l)) ws i h)
+  pub first_passes : satisfied a c ≡ true → first_unsatisfied a (n + 1) (clauses_of ds) ≡ first_unsatisfied a n (clauses_of ws)
+  first_passes t = sym (ap (first_unsatisfied a n) p.clauses ∙ cond-true _ _ _ t)

@@ -1,22 +1,27 @@
 -- One step of the checks that go over a list, at the place i of it.
-use Rattle.std.proofs.Common.{◌≡◌, ℕ, ◌+◌, ◌<◌, ◌≤◌, true, List, length, get_or, drop, ℤ, pos, Ok, Err, Result, sym, ap, ◌∙◌}
+use Rattle.std.proofs.Common.{◌≡◌, ℕ, ◌+◌, ◌<◌, ◌≤◌, Bool, true, false, cond, List, [], ◌∷◌, length, get_or, drop, ℤ, pos, Ok, Err, Result, Some, None, Option, sym, refl, ap, ◌∙◌}
+use Rattle.std.specs.Prelude.{nat_le, nat_lt}
+use Rattle.std.specs.List.{position_from}
 use Rattle.std.proofs.lemmas.List.{at_drop_more, at_drop_all}
-use Rattle.std.proofs.lemmas.Bool.{cond-true, cond-false, le-leb, lt-leb, eq-eqb, and_from}
+use Rattle.std.proofs.lemmas.Bool.{cond-true, cond-false, le-leb, lt-leb, ltb-true, ltb-false, eq-eqb, and_from}
 use Rattle.cnf.specs.declared.refusal.Check.TheVariants.{StartValues}
 use Rattle.cnf.specs.declared.refusal.Refusal.{Refusal}
 use Rattle.cnf.specs.declared.tally.Tally.{Tally}
 use Rattle.cnf.specs.Refusals.{refused}
 use Rattle.cnf.specs.Scans.{and_then, placed, no_words, tallied, tallied_from, closed, within, table_checked, bytes_from, start_checked}
 
-module _ (bs : List ℕ) (i : ℕ) (h : i < length bs) where
-  pub bytes_more : get_or bs i 0 ≤ 1 → bytes_from (i + 1) (drop (i + 1) bs) ≡ bytes_from i (drop i bs)
-  bytes_more l = sym (at_drop_more (bytes_from i) bs i 0 h ∙ cond-true _ _ _ (le-leb (get_or bs i 0) 1 l))
+-- what the place of the first byte above 1 says of a start
+abbrev pub found_bad : Option ℕ → Result Unit Refusal
+found_bad None = Ok tt
+found_bad (Some p) = Err (refused StartValues p)
 
-  pub bytes_bad : 1 < get_or bs i 0 → Err (refused StartValues i) ≡ bytes_from i (drop i bs)
-  bytes_bad l = sym (at_drop_more (bytes_from i) bs i 0 h ∙ cond-false _ _ _ (lt-leb (get_or bs i 0) 1 l))
-
-pub bytes_none : (bs : List ℕ) (i : ℕ) → length bs ≤ i → Ok tt ≡ bytes_from i (drop i bs)
-bytes_none bs i h = sym (at_drop_all (bytes_from i) bs i h)
+pub bytes_found : (i : ℕ) (bs : List ℕ) → found_bad (position_from (nat_lt 1) i bs) ≡ bytes_from i bs
+bytes_found i [] = refl
+bytes_found i (b ∷ bs) = by (nat_lt 1 b) (bytes_found (i + 1) bs) refl
+  where
+    by : (t : Bool) → found_bad (position_from (nat_lt 1) (i + 1) bs) ≡ bytes_from (i + 1) bs → nat_lt 1 b ≡ t → found_bad (cond t (Some i) (position_from (nat_lt 1) (i + 1) bs)) ≡ cond (nat_le b 1) (bytes_from (i + 1) bs) (Err (refused StartValues i))
+    by true more e = sym (cond-false _ _ _ (lt-leb b 1 (ltb-true 1 b e)))
+    by false more e = more ∙ sym (cond-true _ _ _ (le-leb b 1 (ltb-false 1 b e)))
 
 pub start_sized : (v : ℕ) (bs : List ℕ) → length bs ≡ v → bytes_from 0 bs ≡ start_checked v bs
 start_sized v bs e = sym (cond-true _ _ _ (eq-eqb (length bs) v e))

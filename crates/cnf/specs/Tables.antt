@@ -43,10 +43,10 @@ abbrev pub clauses_of : List ℤ → List (List ℤ)
 clauses_of [] = []
 clauses_of (w ∷ ws) = cond (is_zero w) ([] ∷ clauses_of ws) (onto w (clauses_of ws))
 
--- what follows the first 0
-abbrev pub rest : List ℤ → List ℤ
-rest [] = []
-rest (w ∷ ws) = cond (is_zero w) ws (rest ws)
+-- the first clause that the words spell is c, and the words ds are behind it
+pub record Parted (ws c ds : List ℤ) : Type 0 where
+  pub clauses : clauses_of ws ≡ c ∷ clauses_of ds
+  pub shorter : length ds < length ws
 
 -- an assignment gives a value to each variable; variable k has the place k − 1
 abbrev pub Assignment : Type 0

@@ -1,6 +1,6 @@
 // What the words of a table amount to so far.
 ghost use Rattle.std.specs.Prelude.{◌≡◌};
-ghost use Rattle.cnf.specs.Scans.{no_words, tallied, tallied_end, tallied_literal, closed, placed};
+ghost use Rattle.cnf.specs.Scans.{no_words, tallied, tallied_end, tallied_literal, closed};
 
 use crate::refusal::{Check, Refusal};
 
@@ -81,27 +81,11 @@ impl Tally {
         ensures { result ≡ closed place self }
     {
         if self.begun {
-            return Err(Refusal {
-                check: Check::ClauseCount,
-                place,
-            });
+            return Err(Check::ClauseCount.at(place));
         }
         if self.ended == 0 {
-            return Err(Refusal {
-                check: Check::Limits,
-                place: 0,
-            });
+            return Err(Check::Limits.at(0));
         }
         Ok(self.ended)
-    }
-}
-
-// Puts a place beside the check that gave a no.
-pub fn at_place<T>(res: Result<T, Check>, place: usize) -> Result<T, Refusal>
-    ensures { result ≡ placed res place }
-{
-    match res {
-        Ok(value) => Ok(value),
-        Err(check) => Err(Refusal { check, place }),
     }
 }
