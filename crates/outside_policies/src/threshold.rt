@@ -2,7 +2,7 @@
 ghost use Rattle.std.specs.Prelude.{◌≡◌};
 ghost use Rattle.outside_policies.specs.Threshold.{threshold, threshold_lawful};
 
-use policy::admission::Policy;
+use policy::admission::{Level, Policy, View};
 
 // Changed variables first, then those whose score is at least a lent number.
 #[derive(Clone, Copy)]
@@ -24,15 +24,15 @@ impl<'a> Policy for Threshold<'a> {
 
     ghost lawful = { threshold_lawful };
 
-    fn level(&self, score: i32, changed: bool, _total: u32, _clauses: u32) -> u8 {
-        if score <= 0 {
-            0
-        } else if changed {
-            1
-        } else if score as u32 >= *self.least {
-            2
+    fn level(&self, view: View) -> Option<Level> {
+        if view.score <= 0 {
+            None
+        } else if view.changed {
+            Some(Level::First)
+        } else if view.score as u32 >= *self.least {
+            Some(Level::Second)
         } else {
-            0
+            None
         }
     }
 }

@@ -1,28 +1,26 @@
 // What generic code may lean on, and series of calls that mix policies and sources.
 ghost use Rattle.std.specs.Prelude.{false, ◌≡◌, ltb, get_or};
 ghost use Rattle.policy.specs.Generators.{next};
+ghost use Rattle.policy.specs.Numbers.{level_number};
 ghost use Rattle.policy.specs.Policies.{cca, descent};
 ghost use Rattle.outside_policies.specs.Threshold.{threshold};
 
 use crate::countdown::Countdown;
 use crate::threshold::Threshold;
-use policy::admission::{Cca, Descent, Policy};
+use policy::admission::{Cca, Descent, Level, Policy, View};
 use policy::any::{AnyPolicy, AnySource};
 use policy::generator::Generator;
 use policy::recorded::Recorded;
 use policy::source::Source;
 
 // Whether the policy admits the variable. Where the laws of every policy tell, it is not asked.
-pub fn admits<P: Policy>(policy: &P, score: i32, changed: bool, total: u32, clauses: u32) -> bool
-    ensures { result ≡ ltb 0 (P.Policy.level policy.now score changed total clauses) }
+pub fn admits<P: Policy>(policy: &P, view: View) -> bool
+    ensures { result ≡ ltb 0 (P.Policy.level policy.now view.score view.changed view.total view.clauses) }
 {
-    if score <= 0 {
+    if view.score <= 0 {
         return false;
     }
-    if changed {
-        return true;
-    }
-    policy.level(score, changed, total, clauses) > 0
+    view.changed || policy.level(view).is_some()
 }
 
 // A number from the source; one that has none is left as it was.
@@ -36,10 +34,10 @@ pub fn number<S: Source>(source: &mut S) -> u32
 }
 
 // Whether a policy that holds a reference admits the variable.
-pub fn admits_from(least: &u32, score: i32, changed: bool) -> bool
-    ensures { result ≡ ltb 0 (threshold (record { least = least.entry }) score changed 0 0) }
+pub fn admits_from(least: &u32, view: View) -> bool
+    ensures { result ≡ ltb 0 (threshold (record { least = least.entry }) view.score view.changed view.total view.clauses) }
 {
-    admits(&Threshold::new(least), score, changed, 0, 0)
+    admits(&Threshold::new(least), view)
 }
 
 // The first number of a countdown.
@@ -50,13 +48,12 @@ pub fn first_number(from: u32) -> u32
 }
 
 // The levels that the two policies give one variable.
-pub fn both_levels(score: i32, changed: bool, total: u32, clauses: u32) -> (u8, u8)
-    ensures { result ≡ (cca score changed total clauses, descent score changed total clauses) }
+pub fn both_levels(view: View) -> (Option<Level>, Option<Level>)
+    ensures first { level_number result.0 ≡ cca view.score view.changed view.total view.clauses }
+    ensures second { level_number result.1 ≡ descent view.score view.changed view.total view.clauses }
 {
-    let policies = [AnyPolicy::Cca(Cca), AnyPolicy::Descent(Descent)];
-    let first = policies[0].level(score, changed, total, clauses);
-    let second = policies[1].level(score, changed, total, clauses);
-    (first, second)
+    let [first, second] = [AnyPolicy::Cca(Cca), AnyPolicy::Descent(Descent)];
+    (first.level(view), second.level(view))
 }
 
 // A number from a generator and one from a record.

@@ -1,4 +1,5 @@
 pub mod Levels
+pub mod Numbers
 pub mod Policies
 pub mod PolicyLaws
 pub mod Sources

@@ -1,20 +1,37 @@
 // Admission policies: which variables may be flipped greedily, and which of them go first.
 ghost use Rattle.std.specs.Prelude.{◌≡◌};
 ghost use Rattle.policy.specs.Levels.{Levels, LawfulLevels};
+ghost use Rattle.policy.specs.Numbers.{level_number};
 ghost use Rattle.policy.specs.Policies.{cca, descent};
 ghost use Rattle.policy.specs.PolicyLaws.{cca_lawful, descent_lawful};
 
-// Gives each variable a level: 0, not admitted, or 1 or 2, of which 1 goes first.
+// How soon an admitted variable goes: one of a lesser level goes before one of a greater. The numbers are the levels' own.
+#[derive(Clone, Copy, Debug, PartialEq, Eq, PartialOrd, Ord)]
+pub enum Level {
+    First = 1,
+    Second = 2,
+}
+
+// What a policy is shown of a variable: its score and mark, and the total weight and the number of the clauses.
+#[derive(Clone, Copy, Debug, PartialEq, Eq)]
+pub struct View {
+    pub score: i32,
+    pub changed: bool,
+    pub total: u32,
+    pub clauses: u32,
+}
+
+// Gives each variable that it admits a level.
 pub trait Policy {
-    // The levels that a policy gives, by what it holds.
+    // The levels that a policy gives, by what it holds, as numbers: 0 where it does not admit the variable.
     ghost level: { Self → Levels };
 
     // What every policy keeps to.
     ghost lawful: { (p : Self) → LawfulLevels (level p) };
 
-    // The level of a variable with this score and mark, at this total weight and number of clauses.
-    fn level(&self, score: i32, changed: bool, total: u32, clauses: u32) -> u8
-        ensures { result ≡ level self.now score changed total clauses };
+    // The level of a variable, or none where it is not admitted.
+    fn level(&self, view: View) -> Option<Level>
+        ensures { level_number result ≡ level self.now view.score view.changed view.total view.clauses };
 }
 
 // Configuration checking with aspiration: a changed variable goes first, then one whose score is above the mean weight of
@@ -27,13 +44,13 @@ impl Policy for Cca {
 
     ghost lawful = { λ _. cca_lawful };
 
-    fn level(&self, score: i32, changed: bool, total: u32, clauses: u32) -> u8 {
-        if changed && score > 0 {
-            1
-        } else if score > 0 && score as u64 * clauses as u64 > total as u64 {
-            2
+    fn level(&self, view: View) -> Option<Level> {
+        if view.changed && view.score > 0 {
+            Some(Level::First)
+        } else if view.score > 0 && view.score as u64 * view.clauses as u64 > view.total as u64 {
+            Some(Level::Second)
         } else {
-            0
+            None
         }
     }
 }
@@ -47,7 +64,7 @@ impl Policy for Descent {
 
     ghost lawful = { λ _. descent_lawful };
 
-    fn level(&self, score: i32, _changed: bool, _total: u32, _clauses: u32) -> u8 {
-        if score > 0 { 1 } else { 0 }
+    fn level(&self, view: View) -> Option<Level> {
+        (view.score > 0).then_some(Level::First)
     }
 }

@@ -2,7 +2,7 @@
 ghost use Rattle.std.specs.Prelude.{◌≡◌};
 ghost use Rattle.policy.specs.Any.{any_level, any_lawful, any_source, any_source_lawful};
 
-use crate::admission::{Cca, Descent, Policy};
+use crate::admission::{Cca, Descent, Level, Policy, View};
 use crate::generator::Generator;
 use crate::recorded::Recorded;
 use crate::source::Source;
@@ -19,10 +19,10 @@ impl Policy for AnyPolicy {
 
     ghost lawful = { any_lawful };
 
-    fn level(&self, score: i32, changed: bool, total: u32, clauses: u32) -> u8 {
+    fn level(&self, view: View) -> Option<Level> {
         match self {
-            AnyPolicy::Cca(policy) => policy.level(score, changed, total, clauses),
-            AnyPolicy::Descent(policy) => policy.level(score, changed, total, clauses),
+            AnyPolicy::Cca(policy) => policy.level(view),
+            AnyPolicy::Descent(policy) => policy.level(view),
         }
     }
 }

@@ -19,10 +19,7 @@ impl Generator {
         ensures run { IfOk result (Run seed) }
     {
         if seed < 1 || seed > 2_147_483_646 {
-            return Err(Refusal {
-                check: Check::SeedRange,
-                place: 0,
-            });
+            return Err(Check::SeedRange.at(0));
         }
         Ok(Generator { state: seed })
     }

@@ -5,6 +5,7 @@ ghost use Rattle.policy.specs.Recordings.{recorded, recorded_lawful, WordsInOrde
 use crate::source::Source;
 
 // The words of a lent list in order, ready while words remain.
+// Stays (no plainer): a place beside the list, and not the rest of it. What a source holds after a draw is told by an equation, and the rest would be another reference than the one that was lent.
 #[derive(Drop)]
 pub struct Recorded<'a> {
     words: &'a [u32],
