@@ -4,4 +4,4 @@ use Rattle.engine.specs.declared.engine.Engine.{Engine}
 use Rattle.engine.specs.Engines.{KeepsExact}
 
 pub keeps_exact : (e : Engine) → KeepsExact e
-keeps_exact e = exact e.search
+keeps_exact e s is = exact s

@@ -1,6 +1,6 @@
 // What the engine can be told to do. Every call refuses instead of asking anything of its caller, and a refusal alters nothing.
-ghost use Rattle.std.specs.Prelude.{◌≡◌, ◌+◌, ◌≤◌, true, length, None};
-ghost use Rattle.state.specs.Searches.{model, has_formula};
+ghost use Rattle.std.specs.Prelude.{◌≡◌, ◌≤◌, None};
+ghost use Rattle.state.specs.Searches.{model};
 ghost use Rattle.engine.specs.Engines.{held};
 ghost use Rattle.engine.specs.Calls.{in_range, ticks_left, budget_fits, load_reply, restart_reply, flip_reply, weigh_reply, step_reply, run_reply, run_trail};
 
@@ -19,18 +19,12 @@ pub const LAST_TICK: u32 = 1_000_000;
 // The most steps that a run can be given.
 pub const MOST_STEPS: usize = 65_535;
 
-pub(crate) fn refusal(check: Check) -> Refusal
-    ensures { result ≡ record { check = check; place = 0 } }
-{
-    Refusal { check, place: 0 }
-}
-
 // A number from 1 to the greatest.
 pub(crate) fn check_range(greatest: usize, number: usize) -> Result<(), Refusal>
     ensures { result ≡ in_range greatest number }
 {
     if number < 1 || number > greatest {
-        Err(refusal(Check::InRange))
+        Err(Check::InRange.at(0))
     } else {
         Ok(())
     }
@@ -38,11 +32,11 @@ pub(crate) fn check_range(greatest: usize, number: usize) -> Result<(), Refusal>
 
 // So many ticks are left.
 fn check_ticks(search: &Search, wanted: usize) -> Result<(), Refusal>
-    requires { (has_formula search.now ≡ true) × (wanted ≤ 65535) }
+    requires { wanted ≤ 65535 }
     ensures { result ≡ ticks_left wanted (model search.now) }
 {
     if search.tick() as usize + wanted > LAST_TICK as usize {
-        Err(refusal(Check::TicksLeft))
+        Err(Check::TicksLeft.at(0))
     } else {
         Ok(())
     }
@@ -52,7 +46,7 @@ fn check_budget(budget: usize, trail: &[Move]) -> Result<(), Refusal>
     ensures { result ≡ budget_fits budget trail.now }
 {
     if budget > MOST_STEPS || budget > trail.len() {
-        Err(refusal(Check::BudgetFits))
+        Err(Check::BudgetFits.at(0))
     } else {
         Ok(())
     }
@@ -63,9 +57,7 @@ impl Engine {
     pub fn new() -> Engine
         ensures { held result ≡ None }
     {
-        Engine {
-            search: Search::new(),
-        }
+        Engine { search: None }
     }
 
     // Takes over a table, and begins at the given assignment.
@@ -75,7 +67,7 @@ impl Engine {
     {
         check_table(variables, words)?;
         check_start(variables, start)?;
-        self.search.load(variables, words, start);
+        self.search = Some(Search::load(variables, words, start));
         Ok(())
     }
 
@@ -84,11 +76,11 @@ impl Engine {
         ensures answer { result ≡ (restart_reply start.now (held self.old)).answer }
         ensures model { held self.new ≡ (restart_reply start.now (held self.old)).model }
     {
-        if !self.search.has_formula() {
-            return Err(refusal(Check::HasFormula));
-        }
-        check_start(self.search.variables(), start)?;
-        self.search.restart(start);
+        let Some(search) = &mut self.search else {
+            return Err(Check::HasFormula.at(0));
+        };
+        check_start(search.variables(), start)?;
+        search.restart(start);
         Ok(())
     }
 
@@ -97,12 +89,12 @@ impl Engine {
         ensures answer { result ≡ (flip_reply variable (held self.old)).answer }
         ensures model { held self.new ≡ (flip_reply variable (held self.old)).model }
     {
-        if !self.search.has_formula() {
-            return Err(refusal(Check::HasFormula));
-        }
-        check_range(self.search.variables(), variable)?;
-        check_ticks(&self.search, 1)?;
-        self.search.flip(variable - 1);
+        let Some(search) = &mut self.search else {
+            return Err(Check::HasFormula.at(0));
+        };
+        check_range(search.variables(), variable)?;
+        check_ticks(search, 1)?;
+        search.flip(variable - 1);
         Ok(())
     }
 
@@ -111,12 +103,12 @@ impl Engine {
         ensures answer { result ≡ (weigh_reply (held self.old)).answer }
         ensures model { held self.new ≡ (weigh_reply (held self.old)).model }
     {
-        if !self.search.has_formula() {
-            return Err(refusal(Check::HasFormula));
-        }
-        check_ticks(&self.search, 1)?;
-        self.search.weigh();
-        self.search.pass_tick();
+        let Some(search) = &mut self.search else {
+            return Err(Check::HasFormula.at(0));
+        };
+        check_ticks(search, 1)?;
+        search.weigh();
+        search.pass_tick();
         Ok(())
     }
 
@@ -130,11 +122,11 @@ impl Engine {
         ensures model { held self.new ≡ (step_reply (P.Policy.level policy.now) S.Source.meaning (held self.old) source.old).model }
         ensures source { source.new ≡ (step_reply (P.Policy.level policy.now) S.Source.meaning (held self.old) source.old).source }
     {
-        if !self.search.has_formula() {
-            return Err(refusal(Check::HasFormula));
-        }
-        check_ticks(&self.search, 1)?;
-        Ok(advance(&mut self.search, policy, source))
+        let Some(search) = &mut self.search else {
+            return Err(Check::HasFormula.at(0));
+        };
+        check_ticks(search, 1)?;
+        Ok(advance(search, policy, source))
     }
 
     // At most so many steps, whose records fill the trail from the front; gives the outcome, the steps that moved and the dives among them.
@@ -150,11 +142,11 @@ impl Engine {
         ensures source { source.new ≡ (run_reply (P.Policy.level policy.now) S.Source.meaning budget (held self.old) source.old trail.old).source }
         ensures trail { trail.new ≡ run_trail (P.Policy.level policy.now) S.Source.meaning budget (held self.old) source.old trail.old }
     {
-        if !self.search.has_formula() {
-            return Err(refusal(Check::HasFormula));
-        }
+        let Some(search) = &mut self.search else {
+            return Err(Check::HasFormula.at(0));
+        };
         check_budget(budget, trail)?;
-        check_ticks(&self.search, budget)?;
-        Ok(run_on(&mut self.search, policy, source, budget, trail))
+        check_ticks(search, budget)?;
+        Ok(run_on(search, policy, source, budget, trail))
     }
 }

@@ -1,14 +1,16 @@
 // Which variable goes first. Variables go by their places, from 0.
-ghost use Rattle.std.specs.Prelude.{◌≡◌, ◌<◌, ◌≤◌, true, length, Some};
-ghost use Rattle.state.specs.Searches.{model, has_formula};
+ghost use Rattle.std.specs.Prelude.{◌≡◌, ◌<◌, length};
+ghost use Rattle.policy.specs.Numbers.{level_number};
+ghost use Rattle.state.specs.Searches.{model};
 ghost use Rattle.engine.specs.Picks.{level_of, outranks, goes_before, challenged, considered, pick as greedyPick, dive_pick, Within};
 
-use policy::admission::Policy;
+use policy::admission::{Level, Policy, View};
 use state::search::Search;
 
 // Whether x has a greater score than y, or the same and a lesser stamp.
 fn outranks(search: &Search, x: usize, y: usize) -> bool
-    requires { (has_formula search.now ≡ true) × ((x < (model search.now).variables) × (y < (model search.now).variables)) }
+    requires x { x < (model search.now).variables }
+    requires y { y < (model search.now).variables }
     ensures { result ≡ outranks (model search.now) x y }
 {
     let mine = search.score(x);
@@ -17,21 +19,22 @@ fn outranks(search: &Search, x: usize, y: usize) -> bool
 }
 
 // The level that the policy gives a variable.
-pub(crate) fn level_of<P: Policy>(search: &Search, policy: &P, x: usize) -> u8
-    requires { (has_formula search.now ≡ true) × (x < (model search.now).variables) }
-    ensures { result ≡ level_of (P.Policy.level policy.now) (model search.now) x }
+pub(crate) fn level_of<P: Policy>(search: &Search, policy: &P, x: usize) -> Option<Level>
+    requires { x < (model search.now).variables }
+    ensures { level_number result ≡ level_of (P.Policy.level policy.now) (model search.now) x }
 {
-    policy.level(
-        search.score(x),
-        search.changed(x),
-        search.total(),
-        search.clauses() as u32,
-    )
+    policy.level(View {
+        score: search.score(x),
+        changed: search.changed(x),
+        total: search.total(),
+        clauses: search.clauses() as u32,
+    })
 }
 
 // Whether x has a lesser level than y, or the same and a better rank.
 fn goes_before<P: Policy>(search: &Search, policy: &P, x: usize, y: usize) -> bool
-    requires { (has_formula search.now ≡ true) × ((x < (model search.now).variables) × (y < (model search.now).variables)) }
+    requires x { x < (model search.now).variables }
+    requires y { y < (model search.now).variables }
     ensures { result ≡ goes_before (P.Policy.level policy.now) (model search.now) x y }
 {
     let mine = level_of(search, policy, x);
@@ -41,11 +44,12 @@ fn goes_before<P: Policy>(search: &Search, policy: &P, x: usize, y: usize) -> bo
 
 // The best so far, or x where it is admitted and goes before that.
 fn better<P: Policy>(search: &Search, policy: &P, best: Option<usize>, x: usize) -> Option<usize>
-    requires { (has_formula search.now ≡ true) × ((x < (model search.now).variables) × (Within best (model search.now).variables)) }
+    requires x { x < (model search.now).variables }
+    requires best { Within best (model search.now).variables }
     ensures is { result ≡ considered (P.Policy.level policy.now) (model search.now) best x }
     ensures within { Within result (model search.now).variables }
 {
-    if level_of(search, policy, x) == 0 {
+    if level_of(search, policy, x).is_none() {
         return best;
     }
     match best {
@@ -62,7 +66,6 @@ fn better<P: Policy>(search: &Search, policy: &P, best: Option<usize>, x: usize)
 
 // The variable that the policy picks: the least level above 0, then the greatest score, then the least stamp, then the least number.
 pub(crate) fn scan<P: Policy>(search: &Search, policy: &P) -> Option<usize>
-    requires { has_formula search.now ≡ true }
     ensures is { result ≡ greedyPick (P.Policy.level policy.now) (model search.now) }
     ensures within { Within result (model search.now).variables }
 {
@@ -75,7 +78,8 @@ pub(crate) fn scan<P: Policy>(search: &Search, policy: &P) -> Option<usize>
 
 // The better ranked of the best so far and x.
 fn better_ranked(search: &Search, best: Option<usize>, x: usize) -> Option<usize>
-    requires { (has_formula search.now ≡ true) × ((x < (model search.now).variables) × (Within best (model search.now).variables)) }
+    requires x { x < (model search.now).variables }
+    requires best { Within best (model search.now).variables }
     ensures is { result ≡ challenged (outranks (model search.now)) best x }
     ensures within { Within result (model search.now).variables }
 {
@@ -93,7 +97,7 @@ fn better_ranked(search: &Search, best: Option<usize>, x: usize) -> Option<usize
 
 // The variable of a clause with the greatest score, then the least stamp, then the least number.
 pub(crate) fn top_of_clause(search: &Search, clause: usize) -> Option<usize>
-    requires { (has_formula search.now ≡ true) × (clause < length (model search.now).clauses) }
+    requires { clause < length (model search.now).clauses }
     ensures is { result ≡ dive_pick (model search.now) clause }
     ensures within { Within result (model search.now).variables }
 {

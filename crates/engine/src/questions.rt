@@ -1,109 +1,100 @@
 // What the engine can be asked. Variables and clauses go by their numbers, from 1; places of the unsatisfied list from 0. Asking alters nothing.
-ghost use Rattle.std.specs.Prelude.{◌≡◌};
+ghost use Rattle.std.specs.Prelude.{◌≡◌, Some, None, MatchResult};
+ghost use Rattle.cnf.specs.Refusals.{refused};
 ghost use Rattle.state.specs.Model.{assignment, stamp_of, weight_of, cost as costOf, score as scoreOf, changed as changedOf};
 ghost use Rattle.engine.specs.Engines.{held};
 ghost use Rattle.engine.specs.Calls.{of_variable, of_clause, of_model, tick_of, unsatisfied_count, unsatisfied_at};
 
-use crate::calls::{check_range, refusal};
+use crate::calls::check_range;
 use crate::engine::Engine;
 use cnf::refusal::{Check, Refusal};
+use state::search::Search;
 
 impl Engine {
+    // The search, where there is a formula.
+    fn loaded(&self) -> Result<&Search, Refusal>
+        ensures { MatchResult result (λ s. self.now.search ≡ Some s.now) (λ r. (self.now.search ≡ None) × (r ≡ refused Check.HasFormula 0)) }
+    {
+        self.search.as_ref().ok_or(Check::HasFormula.at(0))
+    }
+
     // The value of a variable.
     pub fn value(&self, variable: usize) -> Result<bool, Refusal>
         ensures { result ≡ of_variable assignment variable (held self.now) }
     {
-        if !self.search.has_formula() {
-            return Err(refusal(Check::HasFormula));
-        }
-        check_range(self.search.variables(), variable)?;
-        Ok(self.search.value(variable - 1))
+        let search = self.loaded()?;
+        check_range(search.variables(), variable)?;
+        Ok(search.value(variable - 1))
     }
 
     // The cost now less the cost with only the variable flipped.
     pub fn score(&self, variable: usize) -> Result<i32, Refusal>
         ensures { result ≡ of_variable scoreOf variable (held self.now) }
     {
-        if !self.search.has_formula() {
-            return Err(refusal(Check::HasFormula));
-        }
-        check_range(self.search.variables(), variable)?;
-        Ok(self.search.score(variable - 1))
+        let search = self.loaded()?;
+        check_range(search.variables(), variable)?;
+        Ok(search.score(variable - 1))
     }
 
     // The tick of the last flip of a variable, or 0.
     pub fn stamp(&self, variable: usize) -> Result<u32, Refusal>
         ensures { result ≡ of_variable stamp_of variable (held self.now) }
     {
-        if !self.search.has_formula() {
-            return Err(refusal(Check::HasFormula));
-        }
-        check_range(self.search.variables(), variable)?;
-        Ok(self.search.stamp(variable - 1))
+        let search = self.loaded()?;
+        check_range(search.variables(), variable)?;
+        Ok(search.stamp(variable - 1))
     }
 
     // Whether a variable has had no flip, or a neighbour has had a later one.
     pub fn changed(&self, variable: usize) -> Result<bool, Refusal>
         ensures { result ≡ of_variable changedOf variable (held self.now) }
     {
-        if !self.search.has_formula() {
-            return Err(refusal(Check::HasFormula));
-        }
-        check_range(self.search.variables(), variable)?;
-        Ok(self.search.changed(variable - 1))
+        let search = self.loaded()?;
+        check_range(search.variables(), variable)?;
+        Ok(search.changed(variable - 1))
     }
 
     // The weight of a clause.
     pub fn weight(&self, clause: usize) -> Result<u32, Refusal>
         ensures { result ≡ of_clause weight_of clause (held self.now) }
     {
-        if !self.search.has_formula() {
-            return Err(refusal(Check::HasFormula));
-        }
-        check_range(self.search.clauses(), clause)?;
-        Ok(self.search.weight(clause - 1))
+        let search = self.loaded()?;
+        check_range(search.clauses(), clause)?;
+        Ok(search.weight(clause - 1))
     }
 
     // The sum of the weights of the unsatisfied clauses.
     pub fn cost(&self) -> Result<u32, Refusal>
         ensures { result ≡ of_model costOf (held self.now) }
     {
-        if !self.search.has_formula() {
-            return Err(refusal(Check::HasFormula));
-        }
-        Ok(self.search.cost())
+        let search = self.loaded()?;
+        Ok(search.cost())
     }
 
     // The number of ticks since the search began.
     pub fn tick(&self) -> Result<u32, Refusal>
         ensures { result ≡ of_model tick_of (held self.now) }
     {
-        if !self.search.has_formula() {
-            return Err(refusal(Check::HasFormula));
-        }
-        Ok(self.search.tick())
+        let search = self.loaded()?;
+        Ok(search.tick())
     }
 
     // How many clauses are unsatisfied.
     pub fn unsatisfied_count(&self) -> Result<usize, Refusal>
         ensures { result ≡ of_model unsatisfied_count (held self.now) }
     {
-        if !self.search.has_formula() {
-            return Err(refusal(Check::HasFormula));
-        }
-        Ok(self.search.unsatisfied_count())
+        let search = self.loaded()?;
+        Ok(search.unsatisfied_count())
     }
 
     // The number of the clause at a place of the rising list of the unsatisfied ones.
     pub fn unsatisfied_at(&self, place: usize) -> Result<usize, Refusal>
         ensures { result ≡ unsatisfied_at place (held self.now) }
     {
-        if !self.search.has_formula() {
-            return Err(refusal(Check::HasFormula));
+        let search = self.loaded()?;
+        if place >= search.unsatisfied_count() {
+            return Err(Check::InRange.at(0));
         }
-        if place >= self.search.unsatisfied_count() {
-            return Err(refusal(Check::InRange));
-        }
-        Ok(self.search.unsatisfied_at(place) + 1)
+        Ok(search.unsatisfied_at(place) + 1)
     }
 }

@@ -1,7 +1,7 @@
 // A run: steps until one finds every clause satisfied, is dry, or the budget is made.
-ghost use Rattle.std.specs.Prelude.{◌≡◌, ◌+◌, ◌<◌, ◌≤◌, true, ◌++◌, length, if◌then◌else◌, Some};
+ghost use Rattle.std.specs.Prelude.{◌≡◌, ◌+◌, ◌≤◌, length, if◌then◌else◌};
 ghost use Rattle.state.specs.Model.{Paced};
-ghost use Rattle.state.specs.Searches.{model, model_of, has_formula};
+ghost use Rattle.state.specs.Searches.{model};
 ghost use Rattle.engine.specs.Steps.{run, ran_to, is_dive, counts, trailed};
 
 use crate::answers::{Move, Outcome, Stepped};
@@ -14,12 +14,11 @@ use state::search::Search;
 fn dives_of(entry: Move) -> usize
     ensures { result ≡ (if is_dive entry then 1 else 0) }
 {
-    if entry.mode == 0 { 1 } else { 0 }
+    usize::from(entry.mode == 0)
 }
 
 // The outcome of a run that has made its whole budget.
 fn last_look(search: &Search) -> Outcome
-    requires { has_formula search.now ≡ true }
     ensures { result ≡ ran_to (model search.now) }
 {
     if search.unsatisfied_count() == 0 {
@@ -37,9 +36,11 @@ pub(crate) fn run_on<P: Policy, S: Source>(
     budget: usize,
     trail: &mut [Move],
 ) -> (Outcome, usize, usize)
-    requires { (has_formula search.old ≡ true) × ((0 < (model search.old).variables) × (((model search.old).tick + budget ≤ 1000000) × ((Paced (model search.old)) × (budget ≤ length trail.old)))) }
+    requires ticks { (model search.old).tick + budget ≤ 1000000 }
+    requires pace { Paced (model search.old) }
+    requires trail { budget ≤ length trail.old }
     ensures answer { result ≡ counts (run (P.Policy.level policy.now) S.Source.meaning budget (model search.old) source.old) }
-    ensures model { model_of search.new ≡ Some (run (P.Policy.level policy.now) S.Source.meaning budget (model search.old) source.old).model }
+    ensures model { model search.new ≡ (run (P.Policy.level policy.now) S.Source.meaning budget (model search.old) source.old).model }
     ensures source { source.new ≡ (run (P.Policy.level policy.now) S.Source.meaning budget (model search.old) source.old).source }
     ensures trail { trail.new ≡ trailed (run (P.Policy.level policy.now) S.Source.meaning budget (model search.old) source.old).moves trail.old }
 {

@@ -1,20 +1,29 @@
 // One step of a search.
-ghost use Rattle.std.specs.Prelude.{◌≡◌, ◌<◌, ◌≤◌, true, length, Some};
+ghost use Rattle.std.specs.Prelude.{◌≡◌, ◌<◌, length};
+ghost use Rattle.policy.specs.Numbers.{level_number};
 ghost use Rattle.state.specs.Model.{Paced, unsatisfied, flipped};
-ghost use Rattle.state.specs.Searches.{model, model_of, has_formula};
+ghost use Rattle.state.specs.Searches.{model};
 ghost use Rattle.engine.specs.Steps.{moved, place_of, dive as diveWith, stepped, offer, left};
 
 use crate::answers::{Move, Stepped};
 use crate::picks::{level_of, scan, top_of_clause};
-use policy::admission::Policy;
+use policy::admission::{Level, Policy};
 use policy::source::Source;
 use state::search::Search;
 
+// The mode of a greedy flip: the number of the variable's level.
+fn mode_of(level: Option<Level>) -> u8
+    ensures { result ≡ level_number level }
+{
+    level.map_or(0, |level| level as u8)
+}
+
 // Flips the variable at a place, and gives the record of it.
 fn flip_by(search: &mut Search, mode: u8, x: usize) -> Move
-    requires { (has_formula search.old ≡ true) × ((x < (model search.old).variables) × ((model search.old).tick < 1000000)) }
+    requires x { x < (model search.old).variables }
+    requires tick { (model search.old).tick < 1000000 }
     ensures recorded { result ≡ moved mode x (model search.old) }
-    ensures model { model_of search.new ≡ Some (flipped x (model search.old)) }
+    ensures model { model search.new ≡ flipped x (model search.old) }
 {
     let score = search.score(x);
     search.flip(x);
@@ -37,9 +46,11 @@ fn place_of(number: u32, count: usize) -> usize
 
 // Weighs, and flips the best ranked variable of the unsatisfied clause that the number gives.
 fn dive(search: &mut Search, number: u32) -> Move
-    requires { (has_formula search.old ≡ true) × ((0 < (model search.old).variables) × (((model search.old).tick < 1000000) × ((Paced (model search.old)) × (0 < length (unsatisfied (model search.old)))))) }
+    requires tick { (model search.old).tick < 1000000 }
+    requires pace { Paced (model search.old) }
+    requires left { 0 < length (unsatisfied (model search.old)) }
     ensures recorded { Stepped.Moved result ≡ (diveWith number (model search.old)).answer }
-    ensures model { model_of search.new ≡ Some (diveWith number (model search.old)).model }
+    ensures model { model search.new ≡ (diveWith number (model search.old)).model }
 {
     let place = place_of(number, search.unsatisfied_count());
     let clause = search.unsatisfied_at(place);
@@ -54,17 +65,18 @@ pub(crate) fn advance<P: Policy, S: Source>(
     policy: &P,
     source: &mut S,
 ) -> Stepped
-    requires { (has_formula search.old ≡ true) × ((0 < (model search.old).variables) × (((model search.old).tick < 1000000) × (Paced (model search.old)))) }
+    requires tick { (model search.old).tick < 1000000 }
+    requires pace { Paced (model search.old) }
     ensures answer { result ≡ (stepped (P.Policy.level policy.now) (offer S.Source.meaning source.old) (model search.old)).answer }
-    ensures model { model_of search.new ≡ Some (stepped (P.Policy.level policy.now) (offer S.Source.meaning source.old) (model search.old)).model }
+    ensures model { model search.new ≡ (stepped (P.Policy.level policy.now) (offer S.Source.meaning source.old) (model search.old)).model }
     ensures source { source.new ≡ left S.Source.meaning result source.old }
 {
     if search.unsatisfied_count() == 0 {
         return Stepped::Found;
     }
     if let Some(x) = scan(search, policy) {
-        let level = level_of(search, policy, x);
-        return Stepped::Moved(flip_by(search, level, x));
+        let mode = mode_of(level_of(search, policy, x));
+        return Stepped::Moved(flip_by(search, mode, x));
     }
     if !source.ready() {
         return Stepped::Dry;

@@ -1,13 +1,13 @@
--- Every search that has a formula keeps what it should.
-use Rattle.std.proofs.Common.{◌≡◌, true, sym}
+-- Every search keeps what it should.
+use Rattle.std.proofs.Common.{sym}
 use Rattle.state.specs.declared.search.Search.{Search}
-use Rattle.state.specs.Searches.{has_formula, Exact}
+use Rattle.state.specs.Searches.{Exact}
+use Rattle.state.proofs.Facts.{keeps}
 use Rattle.state.proofs.Models.{cost_is, score_is, total_is, changed_is, unsatisfied_is}
-use Rattle.state.proofs.Moves.{keeps}
 
-pub exact : (s : Search) → has_formula s ≡ true → Exact s
-exact s h =
-    let k = keeps s h in
+pub exact : (s : Search) → Exact s
+exact s =
+    let k = keeps s in
     record {
       scores = score_is s.given s.formula s.occurrences s.table k;
       marks = changed_is s.given s.formula s.occurrences s.table k;

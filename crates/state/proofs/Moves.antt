@@ -14,30 +14,14 @@ use Rattle.formula.proofs.Counts.{flipped_same, flipped_other}
 use Rattle.table.specs.declared.table.Row.{Row}
 use Rattle.table.specs.declared.table.ClauseRow.{ClauseRow}
 use Rattle.table.specs.declared.table.Table.{Table}
-use Rattle.state.specs.declared.search.Search.{Search}
 use Rattle.table.specs.Weights.{share_of}
 use Rattle.state.specs.Model.{Model, assignment, flipped, gained_by, smoothed, weighed, begun, Paced}
 use Rattle.table.specs.Rows.{row0, clause0, value_at, weight_at, count_at, gained}
 use Rattle.table.specs.Sound.{Sound, Flipped, Weighed, weighed_at, Begun}
 use Rattle.state.specs.Standing.{model_in, Kept}
-use Rattle.state.specs.Searches.{has_formula}
-use Rattle.state.proofs.Facts.{stands}
 use Rattle.state.proofs.Models.{column, column_length, sum_all, rows_enough, clauses_enough, value_is, weight_is, weights_length, clauses_length, satisfied_is, total_is}
 use Rattle.table.proofs.Weighings.{gained_light, tenths}
 use Rattle.table.proofs.Weighs.{ten_shares}
-
-pub some_clause : (f : Formula) → not (eqb f.clauses 0) ≡ true → 0 < f.clauses
-some_clause f h =
-    let ne = eqb-false f.clauses 0 (not-true (eqb f.clauses 0) h) in
-    ⊎_elim (λ (q : f.clauses ≡ 0). absurd (ne q)) (λ (q : f.clauses ≡ 0 → ⊥). omega arith) (cases_eq f.clauses 0)
-
--- a search with a clause has a model
-pub shown : (g : Given) (f : Formula) (t : Table) (m : Model) → 0 < f.clauses → model_in g f t ≡ m → cond (not (eqb f.clauses 0)) (Some (model_in g f t)) None ≡ Some m
-shown g f t m l e = cond-true _ _ _ (ap not (ne_eqb f.clauses 0 (λ q. omega arith))) ∙ ap Some e
-
--- what a search keeps where it has a formula
-pub keeps : (s : Search) → has_formula s ≡ true → Kept s.given s.formula s.occurrences s.table
-keeps s h = (stands s.given s.formula s.occurrences s.table s.standing).kept (some_clause s.formula h)
 
 module _ {X Y : Type 0} (g : X → Y) (xs ys : List X) (n : ℕ) (d : X) (e : Y) (l : n ≤ length xs) (m : n ≤ length ys) where
   column_same : ((k : ℕ) → k < n → g (get_or ys k d) ≡ g (get_or xs k d)) → map g (take n ys) ≡ map g (take n xs)
@@ -83,6 +67,7 @@ module _ (g : Given) (f : Formula) (o : Occurrences) (t u : Table) (x : ℕ) (ke
   pub flip_kept : Kept g f o u
   flip_kept =
       record {
+        some = kept.some;
         holds = kept.holds;
         occurs = kept.occurs;
         sound = h.sound;
@@ -103,9 +88,10 @@ module _ (g : Given) (f : Formula) (o : Occurrences) (u : Table) (start : List �
       (λ k l. h.weights k l ∙ sym (get_or-replicate (length cs) k 1 0 (omega (arith, holds.clauses)))) in
       λ i. record { variables = f.variables; clauses = is i; values = values i; weights = weights i; stamps = stamps i; tick = h.ticks i }
 
-  pub begin_kept : Kept g f o u
-  begin_kept =
+  pub begin_kept : (0 < f.variables) × (0 < f.clauses) → Kept g f o u
+  begin_kept some =
       record {
+        some = some;
         holds = subst (λ ds. Holds f.variables ds f) (sym is) holds;
         occurs = occurs;
         sound = h.sound;
@@ -122,6 +108,7 @@ module _ (g : Given) (f : Formula) (o : Occurrences) (t : Table) (kept : Kept g 
   tick_kept =
       let s = kept.sound in
       record {
+        some = kept.some;
         holds = kept.holds;
         occurs = kept.occurs;
         sound = record { sized = record { rows = s.sized.rows; clauses = s.sized.clauses }; light = s.light; counts = s.counts; scores = s.scores; costs = s.costs; totals = s.totals; marks = s.marks; stamps = λ y m. omega (arith, s.stamps y m) };
@@ -157,7 +144,7 @@ smooth_le v n G true =
 smooth_le v n G false = omega arith
 
 -- a weighing
-module _ (g : Given) (f : Formula) (o : Occurrences) (t u : Table) (kept : Kept g f o t) (some : 0 < f.clauses) (h : Weighed f t u) where
+module _ (g : Given) (f : Formula) (o : Occurrences) (t u : Table) (kept : Kept g f o t) (h : Weighed f t u) where
   abbrev m : Model
   m = model_in g f t
 
@@ -211,6 +198,7 @@ module _ (g : Given) (f : Formula) (o : Occurrences) (t u : Table) (kept : Kept 
       let a : f.clauses * (1 + t.tick) ≤ 1024 * 1000000 = mul-le-mul {m₁ = 1 + t.tick} {m₂ = 1000000} kept.holds.made.few_clauses (omega arith) in
       let b : length cs * (1 + t.tick) ≡ f.clauses * (1 + t.tick) = ap (λ n. n * (1 + t.tick)) (sym (clauses_length g f o t kept)) in
       record {
+        some = kept.some;
         holds = kept.holds;
         occurs = kept.occurs;
         sound = h.sound;

@@ -1,20 +1,14 @@
 -- The model of a search, and what it keeps beside that.
-use Rattle.std.specs.Prelude.{◌≡◌, ℕ, ◌<◌, Bool, cond, not, Some, None, Option, ◌==◌, nat_eq}
+use Rattle.std.specs.Prelude.{◌≡◌, ℕ, ◌<◌, nat_eq}
 use Rattle.formula.specs.Occurrences.{passing}
 use Rattle.table.specs.Rows.{score_at, changed_at, count_at}
 use Rattle.state.specs.declared.search.Search.{Search}
 use Rattle.state.specs.Model.{Model, cost, score, total, changed, unsatisfied}
 use Rattle.state.specs.Standing.{model_in}
 
--- the model of a search that has a formula
+-- what a search stands for
 abbrev pub model : Search → Model
 model s = model_in s.given s.formula s.table
-
-abbrev pub has_formula : Search → Bool
-has_formula s = not (s.formula.clauses == 0)
-
-abbrev pub model_of : Search → Option Model
-model_of s = cond (has_formula s) (Some (model s)) None
 
 -- every number that is kept equals its definition: the score and the mark of each variable, the cost, the sum of the weights, and the places of the clauses whose true count is 0
 pub record Exact (s : Search) : Type 0 where

@@ -1,16 +1,16 @@
 -- What a search keeps, and the model that it stands for.
-use Rattle.std.specs.Prelude.{◌≡◌, ◌<◌, ◌≤◌, map, length, take}
+use Rattle.std.specs.Prelude.{◌<◌, ◌≤◌, map, take}
 use Rattle.cnf.specs.Tables.{clauses_of}
 use Rattle.formula.specs.declared.formula.Formula.{Formula}
 use Rattle.formula.specs.declared.given.Given.{Given}
 use Rattle.formula.specs.declared.occurrences.Occurrences.{Occurrences}
-use Rattle.formula.specs.Formulas.{Sized as SizedFormula, Holds, words_of}
-use Rattle.formula.specs.Occurrences.{Rows, Occurs}
+use Rattle.formula.specs.Formulas.{Holds, words_of}
+use Rattle.formula.specs.Occurrences.{Occurs}
 use Rattle.table.specs.declared.table.Row.{Row}
 use Rattle.table.specs.declared.table.ClauseRow.{ClauseRow}
 use Rattle.table.specs.declared.table.Table.{Table}
 use Rattle.state.specs.Model.{Model}
-use Rattle.table.specs.Sound.{Sized, Sound}
+use Rattle.table.specs.Sound.{Sound}
 
 -- the formula as it was given, and the rows of its variables and clauses
 abbrev pub model_in : Given → Formula → Table → Model
@@ -24,17 +24,11 @@ model_in g f t =
       tick = t.tick;
     }
 
--- where there is a formula: the entries and lists are those of the words, every number equals its definition, and none is near the limit of its type
+-- there is a variable and a clause, the entries and lists are those of the words, every number equals its definition, and none is near the limit of its type
 pub record Kept (g : Given) (f : Formula) (o : Occurrences) (t : Table) : Type 0 where
+  pub some : (0 < f.variables) × (0 < f.clauses)
   pub holds : Holds f.variables (clauses_of (words_of g)) f
   pub occurs : Occurs f o
   pub sound : Sound f t
   pub limited : t.total ≤ 1024001024
   pub ticks : t.tick ≤ 1000000
-
-pub record Standing (g : Given) (f : Formula) (o : Occurrences) (t : Table) : Type 0 where
-  pub words : length g.words ≡ 5120
-  pub entries : SizedFormula f
-  pub lists : Rows o
-  pub rows : Sized t
-  pub kept : 0 < f.clauses → Kept g f o t

@@ -1,17 +1,17 @@
 // The state of a search.
-ghost use Rattle.state.specs.Standing.{Standing};
+ghost use Rattle.state.specs.Standing.{Kept};
 
 use formula::formula::Formula;
 use formula::given::Given;
 use formula::occurrences::Occurrences;
 use table::table::Table;
 
-// A formula, or none yet, with an assignment, weights, stamps and the tick, and every number that follows from them.
+// A formula with an assignment, weights, stamps and the tick, and every number that follows from them.
 #[derive(Drop)]
 pub struct Search {
     pub(crate) given: Given,
     pub(crate) formula: Formula,
     pub(crate) occurrences: Occurrences,
     pub(crate) table: Table,
-    ghost standing: { ∥ Standing given formula occurrences table ∥₁ },
+    ghost kept: { ∥ Kept given formula occurrences table ∥₁ },
 }

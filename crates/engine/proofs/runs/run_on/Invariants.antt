@@ -1,13 +1,12 @@
-use Rattle.std.proofs.Common.{◌≡◌, ◌+◌, ◌<◌, ◌≤◌, true}
+use Rattle.std.proofs.Common.{◌+◌, ◌≤◌}
 use Rattle.state.specs.Model.{Paced}
-use Rattle.state.specs.Searches.{model, has_formula}
+use Rattle.state.specs.Searches.{model}
 use Rattle.engine.proofs.Going.{Going}
 use Rattle.engine.proofs.runs.run_on.Given as goal
 
 abbrev pub invariant-loop-i : goal.invariant-loop-i
-invariant-loop-i g l =
-    (has_formula l.search ≡ true)
-    × (0 < (model l.search).variables)
-    × ((model l.search).tick + l.initial.budget ≤ 1000000 + l.i)
-    × Paced (model l.search)
-    × Going (g.P.Policy.level l.policy) g.S.Source.meaning l.budget (model l.initial.search) l.initial.source l.initial.trail l.i (model l.search) l.source l.trail l.dives
+invariant-loop-i g l = record {
+  ticks : (model l.search).tick + l.initial.budget ≤ 1000000 + l.i;
+  pace : Paced (model l.search);
+  going : Going (g.P.Policy.level l.policy) g.S.Source.meaning l.budget (model l.initial.search) l.initial.source l.initial.trail l.i (model l.search) l.source l.trail l.dives
+}

@@ -18,9 +18,9 @@ returns-in-Some g c =
     let p : pick f m ≡ Some x = sym c.in-Some.ensures.is in
     let ne : length (unsatisfied m) ≡ 0 → ⊥ = λ z. omega (arith, c.unsatisfied_count.ensures) in
     let e = greedy_step f (offer u c.args.source.now) m x ne p in
-    let r : c.flip_by.result ≡ moved (level_of f m x) x m = c.flip_by.ensures.recorded ∙ ap (λ l. moved l x m) c.level_of-level.ensures in
+    let r : c.flip_by.result ≡ moved (level_of f m x) x m = c.flip_by.ensures.recorded ∙ ap (λ l. moved l x m) (c.mode_of-mode.ensures ∙ c.level_of.ensures) in
     record {
       answer = ap Moved r ∙ sym (ap (λ a. a.answer) e);
-      model = c.flip_by.ensures.model ∙ sym (ap (λ a. Some a.model) e);
+      model = c.flip_by.ensures.model ∙ sym (ap (λ a. a.model) e);
       source = sym (ap (λ v. left u (Moved v) c.args.source.now) r ∙ greedy_left u (level_of f m x) x m c.args.source.now (pick-admitted f m x p));
     }

@@ -1,9 +1,7 @@
-use Rattle.state.proofs.Moves.{keeps}
-use Rattle.state.proofs.Moves.{some_clause}
+use Rattle.state.proofs.Facts.{keeps}
 use Rattle.state.proofs.search.Search.clauses.Goals as goal
 
 pub returns : goal.returns
 returns c =
-    let s = c.args.self.now in
-    let k = keeps s c.requires in
-    record { is = k.holds.clauses; few = (some_clause s.formula c.requires, k.holds.made.few_clauses) }
+    let k = keeps c.args.self.now in
+    record { is = k.holds.clauses; few = (k.some.1, k.holds.made.few_clauses) }

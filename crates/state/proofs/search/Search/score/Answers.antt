@@ -1,6 +1,6 @@
 use Rattle.std.proofs.Common.{◌≡◌, ◌<◌, ℤ, pos, ◌+ℤ◌, ◌≤ℤ◌, ◌∙◌, arith, w32, w64, to_z, of_z, rules}
 use Rattle.table.specs.Rows.{row_at}
-use Rattle.state.proofs.Moves.{keeps}
+use Rattle.state.proofs.Facts.{keeps}
 use Rattle.std.proofs.lemmas.Int.{ints}
 use Rattle.state.proofs.Models.{score_is}
 use Rattle.state.proofs.Asks.{score_small}
@@ -11,24 +11,24 @@ small_same z a b = omega (arith, ints)
 
 pub offset_bounds-self-x : goal.offset_bounds-self-x
 offset_bounds-self-x c =
-    let h : c.args.x < 256 = omega (arith, (keeps c.args.self.now c.requires.0).holds.made.few_variables, c.requires.1) in
+    let h : c.args.x < 256 = omega (arith, (keeps c.args.self.now).holds.made.few_variables, c.requires) in
     search rules
 
 pub bounds-self-x : goal.bounds-self-x
 bounds-self-x c =
-    let h : c.args.x < 256 = omega (arith, (keeps c.args.self.now c.requires.0).holds.made.few_variables, c.requires.1) in
+    let h : c.args.x < 256 = omega (arith, (keeps c.args.self.now).holds.made.few_variables, c.requires) in
     search rules
 
 pub overflow_cast-result : goal.overflow_cast-result
 overflow_cast-result c =
     let s = c.args.self.now in
-    let h = score_small s.given s.formula s.occurrences s.table (keeps s c.requires.0) c.args.x c.requires.1 in
+    let h = score_small s.given s.formula s.occurrences s.table (keeps s) c.args.x c.requires in
     omega (arith, ints)
 
 pub returns : goal.returns
 returns c =
     let s = c.args.self.now in
-    let k = keeps s c.requires.0 in
-    let h = score_small s.given s.formula s.occurrences s.table k c.args.x c.requires.1 in
+    let k = keeps s in
+    let h = score_small s.given s.formula s.occurrences s.table k c.args.x c.requires in
     small_same (row_at s.table c.args.x).score h.0 h.1
-    ∙ score_is s.given s.formula s.occurrences s.table k c.args.x c.requires.1
+    ∙ score_is s.given s.formula s.occurrences s.table k c.args.x c.requires

@@ -1,19 +1,19 @@
 use Rattle.std.proofs.Common.{◌<◌, sym, arith, rules}
-use Rattle.state.proofs.Moves.{keeps}
+use Rattle.state.proofs.Facts.{keeps}
 use Rattle.state.proofs.Models.{stamp_is}
 use Rattle.state.proofs.search.Search.stamp.Goals as goal
 
 pub offset_bounds-self-x : goal.offset_bounds-self-x
 offset_bounds-self-x c =
-    let h : c.args.x < 256 = omega (arith, (keeps c.args.self.now c.requires.0).holds.made.few_variables, c.requires.1) in
+    let h : c.args.x < 256 = omega (arith, (keeps c.args.self.now).holds.made.few_variables, c.requires) in
     search rules
 
 pub bounds-self-x : goal.bounds-self-x
 bounds-self-x c =
-    let h : c.args.x < 256 = omega (arith, (keeps c.args.self.now c.requires.0).holds.made.few_variables, c.requires.1) in
+    let h : c.args.x < 256 = omega (arith, (keeps c.args.self.now).holds.made.few_variables, c.requires) in
     search rules
 
 pub returns : goal.returns
 returns c =
     let s = c.args.self.now in
-    sym (stamp_is s.given s.formula s.occurrences s.table (keeps s c.requires.0) c.args.x c.requires.1)
+    sym (stamp_is s.given s.formula s.occurrences s.table (keeps s) c.args.x c.requires)

@@ -1,6 +1,8 @@
 use Rattle.std.proofs.Common.{refl}
-use Rattle.state.proofs.Moves.{keeps}
+use Rattle.state.proofs.Facts.{keeps}
 use Rattle.state.proofs.search.Search.variables.Goals as goal
 
 pub returns : goal.returns
-returns c = record { is = refl; few = (keeps c.args.self.now c.requires).holds.made.few_variables }
+returns c =
+    let k = keeps c.args.self.now in
+    record { is = refl; few = (k.some.0, k.holds.made.few_variables) }
