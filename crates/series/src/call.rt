@@ -1,4 +1,9 @@
 // A call of a series, in plain numbers: what it needs is lent beside it.
+ghost use Rattle.std.specs.Prelude.{◌≡◌, Some, None, MatchResult};
+ghost use Rattle.cnf.specs.Refusals.{refused};
+ghost use Rattle.series.specs.Series.{lent as part_lent};
+
+use cnf::refusal::{Check, Refusal};
 use engine::answers::{Outcome, Stepped};
 
 // The part of lent memory from one place up to another.
@@ -6,6 +11,15 @@ use engine::answers::{Outcome, Stepped};
 pub struct Part {
     pub from: usize,
     pub to: usize,
+}
+
+impl Part {
+    // The part of what is lent, or the refusal of a part that lies outside.
+    pub fn of<T>(self, lent: &[T]) -> Result<&[T], Refusal>
+        ensures { MatchResult result (λ xs. part_lent lent.now self ≡ Some xs.now) (λ r. (part_lent lent.now self ≡ None) × (r ≡ refused Check.InRange 0)) }
+    {
+        lent.get(self.from..self.to).ok_or(Check::InRange.at(0))
+    }
 }
 
 #[derive(Clone, Copy, Debug, PartialEq, Eq)]

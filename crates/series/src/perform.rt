@@ -11,16 +11,6 @@ use engine::engine::Engine;
 use policy::admission::Policy;
 use policy::source::Source;
 
-// The refusal of a part or a place that is not lent.
-fn outside() -> Refusal
-    ensures { result ≡ record { check = Check.InRange; place = 0 } }
-{
-    Refusal {
-        check: Check::InRange,
-        place: 0,
-    }
-}
-
 // A load from parts of lent words and starts.
 fn load_from(
     engine: &mut Engine,
@@ -33,19 +23,9 @@ fn load_from(
     ensures reply { result ≡ (load_with {Σ = ℕ} variables (lent words.now words_part) (lent starts.now start_part) (held engine.old) [] []).reply }
     ensures model { held engine.new ≡ (load_with {Σ = ℕ} variables (lent words.now words_part) (lent starts.now start_part) (held engine.old) [] []).model }
 {
-    let Part { from, to } = words_part;
-    if from > to || to > words.len() {
-        return Err(outside());
-    }
-    let Part {
-        from: first,
-        to: end,
-    } = start_part;
-    if first > end || end > starts.len() {
-        return Err(outside());
-    }
-    engine.load(variables, &words[from..to], &starts[first..end])?;
-    Ok(Answer::Done)
+    let words = words_part.of(words)?;
+    let start = start_part.of(starts)?;
+    done(engine.load(variables, words, start))
 }
 
 // A restart from a part of lent starts.
@@ -53,12 +33,8 @@ fn restart_from(engine: &mut Engine, starts: &[u8], part: Part) -> Result<Answer
     ensures reply { result ≡ (restart_with {Σ = ℕ} (lent starts.now part) (held engine.old) [] []).reply }
     ensures model { held engine.new ≡ (restart_with {Σ = ℕ} (lent starts.now part) (held engine.old) [] []).model }
 {
-    let Part { from, to } = part;
-    if from > to || to > starts.len() {
-        return Err(outside());
-    }
-    engine.restart(&starts[from..to])?;
-    Ok(Answer::Done)
+    let start = part.of(starts)?;
+    done(engine.restart(start))
 }
 
 // A question.
@@ -66,34 +42,27 @@ fn ask(engine: &Engine, question: Question) -> Result<Answer, Refusal>
     ensures { result ≡ answered question (held engine.now) }
 {
     match question {
-        Question::Value(variable) => Ok(Answer::Flag(engine.value(variable)?)),
-        Question::Score(variable) => Ok(Answer::Score(engine.score(variable)?)),
-        Question::Stamp(variable) => Ok(Answer::Number(engine.stamp(variable)?)),
-        Question::Changed(variable) => Ok(Answer::Flag(engine.changed(variable)?)),
-        Question::Weight(clause) => Ok(Answer::Number(engine.weight(clause)?)),
-        Question::Cost => Ok(Answer::Number(engine.cost()?)),
-        Question::Tick => Ok(Answer::Number(engine.tick()?)),
-        Question::Unsatisfied => Ok(Answer::Count(engine.unsatisfied_count()?)),
-        Question::UnsatisfiedAt(place) => Ok(Answer::Count(engine.unsatisfied_at(place)?)),
+        Question::Value(variable) => engine.value(variable).map(Answer::Flag),
+        Question::Score(variable) => engine.score(variable).map(Answer::Score),
+        Question::Stamp(variable) => engine.stamp(variable).map(Answer::Number),
+        Question::Changed(variable) => engine.changed(variable).map(Answer::Flag),
+        Question::Weight(clause) => engine.weight(clause).map(Answer::Number),
+        Question::Cost => engine.cost().map(Answer::Number),
+        Question::Tick => engine.tick().map(Answer::Number),
+        Question::Unsatisfied => engine.unsatisfied_count().map(Answer::Count),
+        Question::UnsatisfiedAt(place) => engine.unsatisfied_at(place).map(Answer::Count),
     }
 }
 
-// What a step answered, as the answer of a series.
-fn step_answer(res: Result<Stepped, Refusal>) -> Result<Answer, Refusal>
-    ensures { result ≡ given Answer.Stepped res }
+// What a call that answers nothing else answered, as the answer of a series.
+fn done(res: Result<(), Refusal>) -> Result<Answer, Refusal>
+    ensures { result ≡ given (λ _. Answer.Done) res }
 {
-    Ok(Answer::Stepped(res?))
-}
-
-// What a run answered, as the answer of a series.
-fn run_answer(res: Result<(Outcome, usize, usize), Refusal>) -> Result<Answer, Refusal>
-    ensures { result ≡ given ran_as res }
-{
-    let (outcome, steps, dives) = res?;
-    Ok(Answer::Ran(outcome, steps, dives))
+    res.map(|()| Answer::Done)
 }
 
 // A step with one of the lent policies and one of the lent sources.
+// Stays (proof): the source by a test and an index. Where get_mut finds none, the proof has lost that the sources are as they were.
 fn step_with<P: Policy, S: Source>(
     engine: &mut Engine,
     policies: &[P],
@@ -105,10 +74,13 @@ fn step_with<P: Policy, S: Source>(
     ensures model { held engine.new ≡ (step_with P.Policy.level S.Source.meaning (look policies.now policy) (look sources.old source) source (held engine.old) sources.old []).model }
     ensures sources { sources.new ≡ (step_with P.Policy.level S.Source.meaning (look policies.now policy) (look sources.old source) source (held engine.old) sources.old []).sources }
 {
-    if policy >= policies.len() || source >= sources.len() {
-        return Err(outside());
+    let policy = policies.get(policy).ok_or(Check::InRange.at(0))?;
+    if source >= sources.len() {
+        return Err(Check::InRange.at(0));
     }
-    step_answer(engine.step(&policies[policy], &mut sources[source]))
+    engine
+        .step(policy, &mut sources[source])
+        .map(Answer::Stepped)
 }
 
 // A run with one of the lent policies and one of the lent sources.
@@ -126,18 +98,12 @@ fn run_with<P: Policy, S: Source>(
     ensures sources { sources.new ≡ (run_with P.Policy.level S.Source.meaning (look policies.now policy) (look sources.old source) source budget (held engine.old) sources.old trail.old).sources }
     ensures trail { trail.new ≡ (run_with P.Policy.level S.Source.meaning (look policies.now policy) (look sources.old source) source budget (held engine.old) sources.old trail.old).trail }
 {
-    if policy >= policies.len() || source >= sources.len() {
-        return Err(outside());
+    let policy = policies.get(policy).ok_or(Check::InRange.at(0))?;
+    if source >= sources.len() {
+        return Err(Check::InRange.at(0));
     }
-    run_answer(engine.run(&policies[policy], &mut sources[source], budget, trail))
-}
-
-// What a call that answers nothing else answered, as the answer of a series.
-fn done_answer(res: Result<(), Refusal>) -> Result<Answer, Refusal>
-    ensures { result ≡ given (λ _. Answer.Done) res }
-{
-    res?;
-    Ok(Answer::Done)
+    let ran = engine.run(policy, &mut sources[source], budget, trail);
+    ran.map(|(outcome, steps, dives)| Answer::Ran(outcome, steps, dives))
 }
 
 // A weighing.
@@ -145,7 +111,7 @@ fn weigh_once(engine: &mut Engine) -> Result<Answer, Refusal>
     ensures reply { result ≡ given (λ _. Answer.Done) (weigh_reply (held engine.old)).answer }
     ensures model { held engine.new ≡ (weigh_reply (held engine.old)).model }
 {
-    done_answer(engine.weigh())
+    done(engine.weigh())
 }
 
 // One call, lent words, starts, policies, sources and a trail.
@@ -170,7 +136,7 @@ pub fn perform<P: Policy, S: Source>(
             start,
         } => load_from(engine, variables, words, part, starts, start),
         Call::Restart { start } => restart_from(engine, starts, start),
-        Call::Flip { variable } => done_answer(engine.flip(variable)),
+        Call::Flip { variable } => done(engine.flip(variable)),
         Call::Weigh => weigh_once(engine),
         Call::Step { policy, source } => step_with(engine, policies, sources, policy, source),
         Call::Run {

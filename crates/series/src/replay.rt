@@ -27,16 +27,11 @@ pub fn replay<P: Policy, S: Source>(
     ensures laws { LawsOfSearch S }
 {
     let mut engine = Engine::new();
-    for i in 0..calls.len().min(answers.len()) {
-        answers[i] = perform(
-            &mut engine,
-            calls[i],
-            words,
-            starts,
-            policies,
-            sources,
-            trail,
-        );
+    for (i, answer) in answers.iter_mut().enumerate() {
+        let Some(call) = calls.get(i) else {
+            break;
+        };
+        *answer = perform(&mut engine, *call, words, starts, policies, sources, trail);
     }
     engine
 }

@@ -38,7 +38,7 @@ returns-in-Flip g c =
     let ss = c.args.sources.now in
     let trail = c.args.trail.now in
     let e = ap (λ k. performed lv u c.args.words.now c.args.starts.now c.args.policies.now k o ss trail) c.in-Flip.is in
-    record { reply = c.done_answer.ensures ∙ ap (given (λ _. answer.Done)) c.flip.ensures.answer ∙ sym (ap (λ p. p.reply) e); model = c.flip.ensures.model ∙ sym (ap (λ p. p.model) e); sources = sym (ap (λ p. p.sources) e); trail = sym (ap (λ p. p.trail) e) }
+    record { reply = c.done.ensures ∙ ap (given (λ _. answer.Done)) c.flip.ensures.answer ∙ sym (ap (λ p. p.reply) e); model = c.flip.ensures.model ∙ sym (ap (λ p. p.model) e); sources = sym (ap (λ p. p.sources) e); trail = sym (ap (λ p. p.trail) e) }
 
 pub returns-in-Weigh : goal.returns-in-Weigh
 unfolding performed
