@@ -58,14 +58,8 @@ impl From<WordFault> for Refusal {
 
     fn from(fault: WordFault) -> Refusal {
         match fault {
-            WordFault::NotANumber(place) => Refusal {
-                check: Check::NumberForm,
-                place,
-            },
-            WordFault::TooLarge(place) => Refusal {
-                check: Check::NumberSize,
-                place,
-            },
+            WordFault::NotANumber(place) => Check::NumberForm.at(place),
+            WordFault::TooLarge(place) => Check::NumberSize.at(place),
         }
     }
 }
