@@ -1,6 +1,6 @@
 // The number that a word writes.
 ghost use Rattle.std.specs.Prelude.{◌≡◌, min};
-ghost use Rattle.words.specs.Numbers.{minus, unsigned, digits, counting, zero_word, is_number, decimal_value, valued};
+ghost use Rattle.words.specs.Numbers.{unsigned, digits, counting, is_number, decimal_value, valued};
 
 use crate::faults::WordFault;
 

@@ -1,6 +1,6 @@
 // The reader's walk: one word after another.
-ghost use Rattle.std.specs.Prelude.{◌≡◌, ◌+◌, ◌≤◌, min, length, drop};
-ghost use Rattle.words.specs.Words.{white, letters, skipped, after, said, word_from, place_of, said_number};
+ghost use Rattle.std.specs.Prelude.{◌≡◌, ◌+◌, min, length, drop};
+ghost use Rattle.words.specs.Words.{white, after, said, word_from, place_of, said_number};
 ghost use Rattle.words.specs.Readers.{Met};
 
 use crate::faults::WordFault;
