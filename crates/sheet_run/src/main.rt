@@ -3,7 +3,7 @@
 
 mod shortest;
 
-use cnf::refusal::{Check, Refusal};
+use cnf::refusal::Check;
 use shortest::Bytes;
 use std::io;
 use std::str::from_utf8;
@@ -13,13 +13,11 @@ fn show(rt: &HostRuntime, name: &str, out: &Bytes, written: Option<usize>) -> io
     let Some(written) = written else {
         return println!(rt; "{name}: not as it should be");
     };
-    if written <= out.len() {
-        if let Ok(text) = from_utf8(&out[0..written]) {
-            println!(rt;
-                "{name}: {written} bytes, and every shorter buffer is refused and unaltered"
-            )?;
-            return print!(rt; "{text}");
-        }
+    if let Some(bytes) = out.get(..written)
+        && let Ok(text) = from_utf8(bytes)
+    {
+        println!(rt; "{name}: {written} bytes, and every shorter buffer is refused and unaltered")?;
+        return print!(rt; "{text}");
     }
     println!(rt; "{name}: no text")
 }
@@ -44,16 +42,16 @@ fn both_ways(
 // The line of a refusal.
 fn refusal(rt: &HostRuntime, check: Check, place: usize) -> io::Result<()> {
     let mut out = [shortest::BLANK; shortest::ROOM];
-    let written = shortest::refused(Refusal { check, place }, &mut out);
+    let written = shortest::refused(check.at(place), &mut out);
     show(rt, "refused line", &out, written)
 }
 
 // The values 1 and 0 in turn.
 fn turns() -> [u8; 256] {
     let mut values = [0; 256];
-    for i in 0..256 {
+    for (i, value) in values.iter_mut().enumerate() {
         if i % 2 == 0 {
-            values[i] = 1;
+            *value = 1;
         }
     }
     values
