@@ -1,4 +1,5 @@
 // Writes a rule table as text into lent bytes.
+// Stays (rule): a table is handed over as the number of its variables and a lent slice of words.
 ghost use Rattle.std.specs.Prelude.{◌≡◌, ◌+◌, ◌≤◌, ◌++◌, length, nat_le};
 ghost use Rattle.cnf.specs.Tables.{clauses_of};
 ghost use Rattle.lay.specs.Laid.{laid};

@@ -4,7 +4,7 @@
 mod shortest;
 
 use cnf::refusal::Check;
-use shortest::Bytes;
+use shortest::{Bytes, Case};
 use std::io;
 use std::str::from_utf8;
 
@@ -23,19 +23,12 @@ fn show(rt: &HostRuntime, name: &str, out: &Bytes, written: Option<usize>) -> io
 }
 
 // A sheet at once, and then the same one call by call.
-fn both_ways(
-    rt: &HostRuntime,
-    variables: usize,
-    words: &[i32],
-    assignment: &[u8],
-    satisfied: bool,
-) -> io::Result<()> {
+fn both_ways(rt: &HostRuntime, case: Case) -> io::Result<()> {
     let mut out = [shortest::BLANK; shortest::ROOM];
-    let printed = shortest::print(variables, words, assignment, &mut out);
+    let printed = shortest::print(case, &mut out);
     show(rt, "at once", &out, printed)?;
     let mut out = [shortest::BLANK; shortest::ROOM];
-    let values: &[u8] = if satisfied { assignment } else { b"" };
-    let written = shortest::series(variables, words, assignment, values, &mut out);
+    let written = shortest::series(case, &mut out);
     show(rt, "call by call", &out, written)
 }
 
@@ -59,9 +52,27 @@ fn turns() -> [u8; 256] {
 
 fn main(rt: HostRuntime) -> io::Result<()> {
     let words = [1, 2, 0, -1, 3, 0, -2, -3, 0];
-    both_ways(&rt, 3, &words, &[0, 1, 0], true)?;
-    both_ways(&rt, 3, &words, &[0, 0, 0], false)?;
-    both_ways(&rt, 256, &[1, -1, 0], &turns(), true)?;
+    let satisfied = Case {
+        variables: 3,
+        words: &words,
+        assignment: &[0, 1, 0],
+        values: &[0, 1, 0],
+    };
+    both_ways(&rt, satisfied)?;
+    let unknown = Case {
+        assignment: &[0, 0, 0],
+        values: &[],
+        ..satisfied
+    };
+    both_ways(&rt, unknown)?;
+    let values = turns();
+    let largest = Case {
+        variables: 256,
+        words: &[1, -1, 0],
+        assignment: &values,
+        values: &values,
+    };
+    both_ways(&rt, largest)?;
     refusal(&rt, Check::VariableRange, 10)?;
     refusal(&rt, Check::ValueDue, usize::MAX)
 }

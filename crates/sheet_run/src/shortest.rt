@@ -10,6 +10,15 @@ pub const BLANK: u8 = b'#';
 
 pub type Bytes = [u8; ROOM];
 
+// A table, an assignment of its variables, and the values that their sheet takes.
+#[derive(Clone, Copy)]
+pub struct Case<'a> {
+    pub variables: usize,
+    pub words: &'a [i32],
+    pub assignment: &'a [u8],
+    pub values: &'a [u8],
+}
+
 const EFFORT: Effort = Effort {
     steps: u32::MAX,
     dives: 17,
@@ -46,9 +55,12 @@ fn exactly(written: usize, room: usize) -> Option<usize> {
     (written == room).then_some(room)
 }
 
-pub fn print(variables: usize, words: &[i32], assignment: &[u8], out: &mut Bytes) -> Option<usize> {
+pub fn print(case: Case, out: &mut Bytes) -> Option<usize> {
     let (written, room) = shortest((), 0, out, |(), lent| {
-        print_sheet(EFFORT, variables, words, assignment, lent).map_err(|refusal| ((), refusal))
+        print_sheet(EFFORT, case.variables, case.words, case.assignment, lent).map_err(|refusal| (
+            (),
+            refusal,
+        ))
     })
     .ok()?;
     exactly(written, room)
@@ -62,14 +74,12 @@ pub fn refused(refusal: Refusal, out: &mut Bytes) -> Option<usize> {
     exactly(written, room)
 }
 
-fn begin(
-    variables: usize,
-    words: &[i32],
-    assignment: &[u8],
-    out: &mut Bytes,
-) -> Option<(Sheet, usize)> {
+fn begin(case: Case, out: &mut Bytes) -> Option<(Sheet, usize)> {
     shortest((), 0, out, |(), lent| {
-        Sheet::begin(EFFORT, variables, words, assignment, lent).map_err(|refusal| ((), refusal))
+        Sheet::begin(EFFORT, case.variables, case.words, case.assignment, lent).map_err(|refusal| (
+            (),
+            refusal,
+        ))
     })
     .ok()
 }
@@ -95,15 +105,9 @@ fn close(sheet: Sheet, from: usize, out: &mut Bytes) -> Option<usize> {
 }
 
 // Begins a sheet, adds the values and closes it, each call tried from a byte less than is written already.
-pub fn series(
-    variables: usize,
-    words: &[i32],
-    assignment: &[u8],
-    values: &[u8],
-    out: &mut Bytes,
-) -> Option<usize> {
-    let (mut sheet, mut written) = begin(variables, words, assignment, out)?;
-    for value in values {
+pub fn series(case: Case, out: &mut Bytes) -> Option<usize> {
+    let (mut sheet, mut written) = begin(case, out)?;
+    for value in case.values {
         match add(sheet, *value, written.saturating_sub(1), out) {
             Ok((next, room)) => {
                 sheet = next;

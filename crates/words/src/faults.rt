@@ -30,10 +30,8 @@ impl From<(WordFault, usize)> for ClauseFault {
     ghost from_gives = { λ w c. c ≡ beside_clause w };
 
     fn from(beside: (WordFault, usize)) -> ClauseFault {
-        ClauseFault::Word {
-            word: beside.0,
-            clause: beside.1,
-        }
+        let (word, clause) = beside;
+        ClauseFault::Word { word, clause }
     }
 }
 
