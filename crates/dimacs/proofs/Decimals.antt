@@ -1,5 +1,5 @@
 -- What is written of a number is that number's form.
-use Rattle.std.proofs.Common.{◌≡◌, ℕ, zero, suc, ◌+◌, ◌-◌, ◌*◌, ◌/◌, ◌%◌, ◌^◌, ◌<◌, ◌≤◌, true, false, eqb, leb, List, [], ◌∷◌, ◌++◌, length, get_or, ℤ, pos, negsuc, neg_ℤ, nat_abs, decimal, sym, refl, ap, ◌∙◌, subst, arith, length-append}
+use Rattle.std.proofs.Common.{◌≡◌, ℕ, zero, suc, ◌+◌, ◌-◌, ◌*◌, ◌/◌, ◌%◌, ◌^◌, ◌<◌, ◌≤◌, true, false, ◌&&◌, eqb, leb, List, [], ◌∷◌, ◌++◌, length, get_or, ℤ, pos, negsuc, neg_ℤ, nat_abs, decimal, sym, refl, ap, ◌∙◌, subst, arith, length-append}
 use Rattle.std.specs.List.{AllByRecursion}
 use Rattle.std.specs.Fmt.{signed_decimal}
 use Rattle.std.proofs.lemmas.Fmt.{decimal_by_steps, decimal_digit, first_decimal, length-decimal-le}
@@ -7,9 +7,12 @@ use Rattle.std.proofs.lemmas.Bool.{cond-false, and_from, and_parts, le-leb, leb-
 use Rattle.std.proofs.lemmas.Bool.Decides.{nat_tests}
 use Rattle.words.specs.Numbers.{within, digits, counting, zero_word, minus, unsigned, decimal_after, decimal_value}
 use Rattle.words.specs.Words.{white, dark}
-use Rattle.words.proofs.Numbers.{counting-digits}
 use Rattle.dimacs.specs.Heads.{in_line}
 use Rattle.dimacs.specs.Grammar.{Numeral}
+
+counting-digits : (bs : List ℕ) → 49 ≤ get_or bs 0 0 → digits bs ≡ counting bs
+counting-digits [] l = absurd (omega arith)
+counting-digits (b ∷ bs) l = ap (λ t. t && digits bs) (let e : within 48 57 b ≡ within 49 57 b = grind (arith, nat_tests) in e)
 
 digits_append : (xs ys : List ℕ) → digits xs ≡ true → digits ys ≡ true → digits (xs ++ ys) ≡ true
 digits_append [] ys a b = b

@@ -1,8 +1,8 @@
 -- How the lines of a head step.
 use Rattle.std.proofs.Common.{◌≡◌, ℕ, ◌+◌, ◌-◌, ◌<◌, ◌≤◌, Bool, true, false, cond, not, ◌&&◌, eqb, List, [], ◌∷◌, length, get_or, take, drop, Some, None, Option, sym, refl, ap, ◌∙◌, true≢false, one-add, arith}
 use Rattle.std.specs.List.{prefix_len}
-use Rattle.std.proofs.lemmas.List.{at_drop_more, at_drop_all, drop-drop, length-drop}
-use Rattle.std.proofs.lemmas.List.Sums.{prefix_len-le-length, prefix_len-drop_yes, prefix_len-drop_no, prefix_len-drop_all}
+use Rattle.std.proofs.lemmas.List.{at_drop_more, at_drop_all, drop-drop, length-drop, take_all}
+use Rattle.std.proofs.lemmas.List.Sums.{prefix_len-le-length}
 use Rattle.std.proofs.lemmas.Bool.{cond-true, cond-false, eq-eqb, ne_eqb, not_from_true, not_from_false, and_parts, and_from, le-ltb, cond_both}
 use Rattle.words.specs.Words.{Token, tokens, Said, word, end, said_of, said_before}
 use Rattle.words.specs.Readers.{Honest}
@@ -27,15 +27,9 @@ in_comment : (p : ℕ) (l : List ℕ) → head_from true p l ≡ head_from true 
 in_comment p [] = omega arith
 in_comment p (b ∷ l) = in_comment_by (in_line b) p b l refl (in_comment (p + 1) l)
 
-module _ (bs : List ℕ) (i : ℕ) (h : i < length bs) where
-  pub line_more : (get_or bs i 0 ≡ 10 → ⊥) → line_end bs (i + 1) ≡ line_end bs i
-  line_more ne = let e = prefix_len-drop_yes in_line bs i 0 h (in_line_yes (get_or bs i 0) ne) in omega arith
-
-  pub line_stops : get_or bs i 0 ≡ 10 → i ≡ line_end bs i
-  line_stops e = let z = prefix_len-drop_no in_line bs i 0 h (in_line_no (get_or bs i 0) e) in omega arith
-
-pub line_all : (bs : List ℕ) (i : ℕ) → length bs ≤ i → i ≡ line_end bs i
-line_all bs i h = let z = prefix_len-drop_all in_line bs i h in omega arith
+-- a text from a place on
+pub rest_is : (bs : List ℕ) (p : ℕ) → take (length bs - p) (drop p bs) ≡ drop p bs
+rest_is bs p = take_all (length bs - p) (drop p bs) (omega (arith, length-drop p bs))
 
 pub line_end_within : (bs : List ℕ) (p : ℕ) → p ≤ length bs → line_end bs p ≤ length bs
 line_end_within bs p h = omega (arith, prefix_len-le-length in_line (drop p bs), length-drop p bs)
@@ -100,10 +94,9 @@ problem_yes m n s (word x a) (word y b) (word z v) (word w c) (end k) ts hv hc e
     ap (λ t. Some (word t v, word w c)) hv ∙ ap (λ t. Some (said_of v, word t c)) hc ∙ sym (cond-true _ _ _ (and_from _ _ q.0 (and_from _ _ q.1 r.0)))
 
 -- the head by its parts
-pub head_by : (bs : List ℕ) (s e : ℕ) (w : Option (Said × Said)) → length bs ≤ 65535 → s ≡ head_from false 0 bs → e ≡ line_end bs s → w ≡ problem_of s (tokens s (drop s (take (e - 0) bs))) → head_of s e w ≡ head_read bs
+pub head_by : (bs : List ℕ) (s e : ℕ) (w : Option (Said × Said)) → length bs ≤ 65535 → s ≡ head_from false 0 bs → e ≡ line_end bs s → w ≡ problem_of s (tokens s (drop s (take e bs))) → head_of s e w ≡ head_read bs
 head_by bs s e w l hs he hw =
     ap (head_of s e) hw
-    ∙ ap (λ n. head_of s e (problem_of s (tokens s (drop s (take n bs))))) (omega arith)
     ∙ ap (λ n. head_of s n (problem_of s (tokens s (drop s (take n bs))))) he
     ∙ ap (λ n. head_of n (line_end bs n) (problem_of n (line_tokens bs n))) hs
     ∙ sym (cond-false _ _ _ (le-ltb 65535 (length bs) l))

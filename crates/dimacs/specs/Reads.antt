@@ -22,10 +22,6 @@ number_in (Ok o) = o
 number_in (Err f) = None
 
 -- a word's fault beside the number of its clause
-abbrev pub beside : {A : Type 0} → Result A WordFault → ℕ → Result A (WordFault × ℕ)
-beside (Ok x) n = Ok x
-beside (Err f) n = Err (f, n)
-
 abbrev pub in_clause : {A : Type 0} → Result A WordFault → ℕ → Result A ClauseFault
 in_clause (Ok x) n = Ok x
 in_clause (Err f) n = Err (beside_clause (f, n))

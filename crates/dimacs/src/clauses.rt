@@ -1,125 +1,71 @@
 // The clauses of a text, word by word.
-ghost use Rattle.std.specs.Prelude.{◌≡◌, ℕ, ◌≤◌, ◌++◌, length, drop, Result};
-ghost use Rattle.words.specs.declared.faults.WordFault.{WordFault};
+ghost use Rattle.std.specs.Prelude.{◌≡◌, ◌≤◌, ◌++◌, length, drop};
 ghost use Rattle.cnf.specs.Scans.{no_words};
-ghost use Rattle.words.specs.Words.{said, tokens, said_number};
-ghost use Rattle.dimacs.specs.Reads.{beside, by_rule, taken, said_taken, finished, clauses_from, number_in, numbers_of};
+ghost use Rattle.words.specs.Words.{said, tokens};
+ghost use Rattle.dimacs.specs.Reads.{taken, said_taken, finished, clauses_from, numbers_of};
 
-use cnf::refusal::{Check, Refusal};
+use crate::head::Head;
+use cnf::refusal::Check;
 use cnf::tally::Tally;
-use words::faults::{ClauseFault, WordFault};
+use words::faults::ClauseFault;
 use words::word::{Reader, Word};
 
-// Puts a word's fault beside the number of the clause in which the word stands.
-trait AtClause<T> {
-    ghost placed: { Self → ℕ → Result T (WordFault × ℕ) };
-
-    fn at_clause(self, clause: usize) -> Result<T, (WordFault, usize)>
-        ensures { result ≡ placed self clause };
-}
-
-impl<T> AtClause<T> for Result<T, WordFault> {
-    ghost placed = { λ r n. beside r n };
-
-    fn at_clause(self, clause: usize) -> Result<T, (WordFault, usize)> {
-        match self {
-            Ok(value) => Ok(value),
-            Err(fault) => Err((fault, clause)),
-        }
-    }
-}
-
 // The tally with one number more, which stands at a place of the text.
-fn take_number(
-    tally: Tally,
-    variables: usize,
-    clauses: usize,
-    place: usize,
-    number: i32,
-) -> Result<Tally, ClauseFault>
+fn take_number(tally: Tally, head: Head, place: usize, number: i32) -> Result<Tally, ClauseFault>
     requires { tally.ended ≤ 1024 }
-    ensures { result ≡ taken variables clauses tally place number }
+    ensures { result ≡ taken head.variables head.clauses tally place number }
 {
     let clause = tally.ended + 1;
-    if tally.ended >= clauses {
-        return Err(ClauseFault::Rule {
-            refusal: Refusal {
-                check: Check::ClauseCount,
-                place,
-            },
-            clause,
-        });
+    if tally.ended >= head.clauses {
+        let refusal = Check::ClauseCount.at(place);
+        return Err(ClauseFault::Rule { refusal, clause });
     }
-    match tally.word(variables, number) {
-        Ok(next) => Ok(next),
-        Err(check) => Err(ClauseFault::Rule {
-            refusal: Refusal { check, place },
+    tally
+        .word(head.variables, number)
+        .map_err(|check| ClauseFault::Rule {
+            refusal: check.at(place),
             clause,
-        }),
-    }
+        })
 }
 
 // The tally with one word more, or nothing at the text's end.
-fn take_word(
-    tally: Tally,
-    variables: usize,
-    clauses: usize,
-    word: Word,
-) -> Result<Option<Tally>, ClauseFault>
+fn take_word(tally: Tally, head: Head, word: Word) -> Result<Option<Tally>, ClauseFault>
     requires { tally.ended ≤ 1024 }
-    ensures { result ≡ said_taken variables clauses tally (said word.entry) }
+    ensures { result ≡ said_taken head.variables head.clauses tally (said word.entry) }
 {
     let place = word.place();
-    let Some(number) = word.number().at_clause(tally.ended + 1)? else {
+    let clause = tally.ended + 1;
+    let Some(number) = word.number().map_err(|fault| (fault, clause))? else {
         return Ok(None);
     };
-    Ok(Some(take_number(tally, variables, clauses, place, number)?))
+    Ok(Some(take_number(tally, head, place, number)?))
 }
 
-// A text that ends here, at the place given, has exactly so many clauses, and the last one is ended.
-fn finish(tally: Tally, clauses: usize, place: usize) -> Result<Tally, ClauseFault>
+// A text that ends here, at the place given, has exactly so many clauses as its head says, and the last one is ended.
+fn finish(tally: Tally, head: Head, place: usize) -> Result<Tally, ClauseFault>
     requires { tally.ended ≤ 1024 }
-    ensures { result ≡ finished clauses place tally }
+    ensures { result ≡ finished head.clauses place tally }
 {
-    if tally.begun || tally.ended != clauses {
-        let refusal = Refusal {
-            check: Check::ClauseCount,
-            place,
-        };
+    if tally.begun || tally.ended != head.clauses {
         return Err(ClauseFault::Rule {
-            refusal,
+            refusal: Check::ClauseCount.at(place),
             clause: tally.ended + 1,
         });
     }
     Ok(tally)
 }
 
-// The tally of the words from a place of the text on, or the first fault.
-pub(crate) fn check_clauses(
-    text: &[u8],
-    from: usize,
-    variables: usize,
-    clauses: usize,
-) -> Result<Tally, ClauseFault>
-    requires { (from ≤ length text.now) × (clauses ≤ 1024) }
-    ensures { result ≡ clauses_from variables clauses (length text.now) no_words (tokens from (drop from text.now)) }
+// The tally of the words behind a text's head, or the first fault.
+pub(crate) fn check_clauses(text: &[u8], head: Head) -> Result<Tally, ClauseFault>
+    requires { (head.end ≤ length text.now) × (head.clauses ≤ 1024) }
+    ensures { result ≡ clauses_from head.variables head.clauses (length text.now) no_words (tokens head.end (drop head.end text.now)) }
 {
-    let mut reader = Reader::at(text, from);
+    let mut reader = Reader::at(text, head.end);
     let mut tally = Tally::new();
-    while let Some(next) = take_word(tally, variables, clauses, reader.next_word())? {
+    while let Some(next) = take_word(tally, head, reader.next_word())? {
         tally = next;
     }
-    finish(tally, clauses, text.len())
-}
-
-// The number that a word is, if it is one.
-fn number_of(word: Word) -> Option<i32>
-    ensures { result ≡ number_in (said_number (said word.entry)) }
-{
-    match word.number() {
-        Ok(number) => number,
-        Err(_) => None,
-    }
+    finish(tally, head, text.len())
 }
 
 // Writes the numbers from a place of the text on to the front of the words table.
@@ -128,9 +74,10 @@ pub(crate) fn fill(text: &[u8], from: usize, words: &mut [i32])
     ensures { words.new ≡ numbers_of (tokens from (drop from text.now)) ++ drop (length (numbers_of (tokens from (drop from text.now)))) words.old }
 {
     let mut reader = Reader::at(text, from);
-    let mut n = 0;
-    while let Some(number) = number_of(reader.next_word()) {
-        words[n] = number;
-        n += 1;
+    for place in words.iter_mut() {
+        let Ok(Some(number)) = reader.next_word().number() else {
+            return;
+        };
+        *place = number;
     }
 }

@@ -1,9 +1,9 @@
 // The head of a text: comment lines, then the problem line.
 ghost use Rattle.std.specs.Prelude.{◌≡◌, ◌+◌, ◌<◌, ◌≤◌, true, false, not, length, drop, slice_index};
 ghost use Rattle.words.specs.Words.{said, tokens, is_word};
-ghost use Rattle.dimacs.specs.Heads.{head_from, line_end, is_p, is_cnf, said_p, said_cnf, problem_line, problem_of, said_pair, limited, up_to, head_of, head_read};
+ghost use Rattle.dimacs.specs.Heads.{head_from, line_end, said_p, said_cnf, problem_line, problem_of, said_pair, limited, up_to, head_of, head_read};
 
-use cnf::refusal::{Check, Refusal};
+use cnf::refusal::Check;
 use cnf::tally::{MOST_CLAUSES, MOST_VARIABLES};
 use words::faults::{HeadFault, WordFault};
 use words::word::{Reader, Word};
@@ -26,11 +26,7 @@ fn line_end(text: &[u8], from: usize) -> usize
     ensures within { result ≤ length text.now }
     ensures stops { result < length text.now → slice_index text.now result ≡ 10 }
 {
-    let mut i = from;
-    while i < text.len() && text[i] != 10 {
-        i += 1;
-    }
-    i
+    from + text[from..].iter().take_while(|b| **b != b'\n').count()
 }
 
 // Where the line after the comment at `from` begins, or the text's end.
@@ -50,55 +46,30 @@ fn head_start(text: &[u8]) -> usize
     ensures within { result ≤ length text.now }
 {
     let mut at = 0;
-    while at < text.len() && text[at] == 99 {
+    while let Some(b'c') = text.get(at) {
         at = next_line(text, at);
     }
     at
-}
-
-fn is_p(bytes: &[u8]) -> bool
-    ensures { result ≡ is_p bytes.now }
-{
-    if let [a] = bytes { *a == 112 } else { false }
-}
-
-fn is_cnf(bytes: &[u8]) -> bool
-    ensures { result ≡ is_cnf bytes.now }
-{
-    if let [a, b, c] = bytes {
-        *a == 99 && *b == 110 && *c == 102
-    } else {
-        false
-    }
 }
 
 // Whether the word is a `p` at the place given.
 fn is_problem(word: &Word, place: usize) -> bool
     ensures { result ≡ said_p place (said word.now) }
 {
-    match word {
-        Word::Number(bytes, at) | Word::Name(bytes, at) => is_p(bytes) && *at == place,
-        Word::End(_) => false,
-    }
+    matches!(word, Word::Number(b"p", at) | Word::Name(b"p", at) if *at == place)
 }
 
 // Whether the word is `cnf`.
 fn is_form(word: &Word) -> bool
     ensures { result ≡ said_cnf (said word.now) }
 {
-    match word {
-        Word::Number(bytes, _) | Word::Name(bytes, _) => is_cnf(bytes),
-        Word::End(_) => false,
-    }
+    matches!(word, Word::Number(b"cnf", _) | Word::Name(b"cnf", _))
 }
 
 fn is_end(word: &Word) -> bool
     ensures { result ≡ not (is_word (said word.now)) }
 {
-    match word {
-        Word::End(_) => true,
-        _ => false,
-    }
+    matches!(word, Word::End(_))
 }
 
 // Whether these are the words of a problem line that begins at `start`, and what follows them is its end.
@@ -141,23 +112,17 @@ fn limit(word: Word, most: usize) -> Result<usize, HeadFault>
     ensures { result ≡ limited most (said word.entry) }
 {
     let place = word.place();
-    match word.number()? {
-        Some(n) => up_to(n, most, place),
-        None => Err(HeadFault::Word(WordFault::NotANumber(place))),
-    }
+    let number = word.number()?.ok_or(WordFault::NotANumber(place))?;
+    up_to(number, most, place)
 }
 
 fn up_to(n: i32, most: usize, place: usize) -> Result<usize, HeadFault>
     ensures { result ≡ up_to most place n }
 {
-    let magnitude = n.unsigned_abs() as usize;
-    if n < 1 || magnitude > most {
-        return Err(HeadFault::Head(Refusal {
-            check: Check::Limits,
-            place,
-        }));
+    match usize::try_from(n) {
+        Ok(number) if number >= 1 && number <= most => Ok(number),
+        _ => Err(HeadFault::Head(Check::Limits.at(place))),
     }
-    Ok(magnitude)
 }
 
 // The head whose problem line begins at `start`, ends at `end` and has these two numbers, if it is one.
@@ -165,10 +130,7 @@ fn head_of(words: Option<(Word, Word)>, start: usize, end: usize) -> Result<Head
     ensures { result ≡ head_of start end (said_pair words.entry) }
 {
     let Some((variables, clauses)) = words else {
-        return Err(HeadFault::Head(Refusal {
-            check: Check::ProblemLine,
-            place: start,
-        }));
+        return Err(HeadFault::Head(Check::ProblemLine.at(start)));
     };
     let variables = limit(variables, MOST_VARIABLES)?;
     let clauses = limit(clauses, MOST_CLAUSES)?;
@@ -184,12 +146,9 @@ pub(crate) fn read_head(text: &[u8]) -> Result<Head, HeadFault>
     ensures { result ≡ head_read text.now }
 {
     if text.len() > MOST_BYTES {
-        return Err(HeadFault::Head(Refusal {
-            check: Check::TextLength,
-            place: 0,
-        }));
+        return Err(HeadFault::Head(Check::TextLength.at(0)));
     }
     let start = head_start(text);
     let end = line_end(text, start);
-    head_of(problem_words(&text[0..end], start), start, end)
+    head_of(problem_words(&text[..end], start), start, end)
 }

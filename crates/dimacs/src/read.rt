@@ -7,7 +7,7 @@ ghost use Rattle.dimacs.specs.RoundTrips.{WritesBack};
 
 use crate::clauses::{check_clauses, fill};
 use crate::head::read_head;
-use cnf::refusal::{Check, Refusal};
+use cnf::refusal::Check;
 use words::faults::HeadFault;
 
 // What a text says: its variables, its clauses, and the words that its clauses take, zeros counted.
@@ -27,13 +27,10 @@ pub fn read(text: &[u8], words: &mut [i32]) -> Result<Problem, HeadFault>
     ensures first { RefusesTheFirst text.now (length words.old) }
 {
     let head = read_head(text)?;
-    let tally = check_clauses(text, head.end, head.variables, head.clauses)?;
+    let tally = check_clauses(text, head)?;
     let count = tally.literals + tally.ended;
     if count > words.len() {
-        return Err(HeadFault::Head(Refusal {
-            check: Check::WordsRoom,
-            place: 0,
-        }));
+        return Err(HeadFault::Head(Check::WordsRoom.at(0)));
     }
     fill(text, head.end, words);
     Ok(Problem {

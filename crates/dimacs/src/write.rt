@@ -1,4 +1,5 @@
 // Writes a rule table as text into lent bytes.
+// Stays (rule): a table is handed over as the number of its variables and a lent slice of words.
 ghost use Rattle.std.specs.Prelude.{◌≡◌, ◌+◌, ◌≤◌, ◌++◌, length, nat_le};
 ghost use Rattle.cnf.specs.Tables.{clauses_of};
 ghost use Rattle.lay.specs.Laid.{laid};
@@ -17,8 +18,8 @@ fn words_width(words: &[i32]) -> usize
     ensures { result ≡ length (words_text words.now) }
 {
     let mut width = 0;
-    for i in 0..words.len() {
-        width += word_width(words[i]) + 1;
+    for word in words {
+        width += word_width(*word) + 1;
     }
     width
 }
@@ -44,8 +45,8 @@ fn lay_words(out: &mut [u8], at: usize, words: &[i32]) -> usize
     ensures bytes { out.new ≡ laid out.old at (words_text words.now) }
 {
     let mut end = at;
-    for i in 0..words.len() {
-        end = lay_piece(out, end, words[i]);
+    for word in words {
+        end = lay_piece(out, end, *word);
     }
     end
 }
@@ -69,7 +70,7 @@ fn lay_line(out: &mut [u8], line: &Line) -> usize
     ensures end { result ≡ length (line_of line.now) }
     ensures bytes { out.new ≡ laid out.old 0 (line_of line.now) }
 {
-    line.put(out, 0).unwrap_or(0)
+    line.put(out, 0).unwrap()
 }
 
 // Whether a line and so many bytes behind it have room.
@@ -89,10 +90,7 @@ pub fn write(variables: usize, words: &[i32], out: &mut [u8]) -> Result<usize, R
     let head = head_line(variables, clauses);
     let width = words_width(words);
     if !fit(&head, width, out.len()) {
-        return Err(Refusal {
-            check: Check::BytesRoom,
-            place: 0,
-        });
+        return Err(Check::BytesRoom.at(0));
     }
     let at = lay_line(out, &head);
     Ok(lay_words(out, at, words))

@@ -1,4 +1,5 @@
 // Pieces of text, each laid into lent bytes that are known to have room for it.
+// Stays (no plainer): the bytes and the place are two parameters, since the sheet and the writer lend their bytes anew at each call.
 ghost use Rattle.std.specs.Prelude.{◌≡◌, ◌+◌, ◌≤◌, length, decimal};
 ghost use Rattle.std.specs.Fmt.{signed_decimal};
 ghost use Rattle.lay.specs.Laid.{laid};
@@ -33,11 +34,11 @@ pub fn lay_number(out: &mut [u8], at: usize, number: usize) -> usize
     ensures bytes { out.new ≡ laid out.old at (decimal number) }
 {
     if number < 10 {
-        out[at] = 48 + number as u8;
+        out[at] = b'0' + number as u8;
         return at + 1;
     }
     let last = lay_number(out, at, number / 10);
-    out[last] = 48 + (number % 10) as u8;
+    out[last] = b'0' + (number % 10) as u8;
     last + 1
 }
 

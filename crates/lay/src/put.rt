@@ -9,7 +9,8 @@ use crate::pieces::{lay_bytes, lay_number, number_width};
 pub fn put_bytes(out: &mut [u8], at: usize, bytes: &[u8]) -> Option<usize>
     ensures { (result, out.new) ≡ put out.old at bytes.now }
 {
-    if at > out.len() || bytes.len() > out.len() - at {
+    let room = out.len().checked_sub(at)?;
+    if bytes.len() > room {
         return None;
     }
     Some(lay_bytes(out, at, bytes))
@@ -19,8 +20,8 @@ pub fn put_bytes(out: &mut [u8], at: usize, bytes: &[u8]) -> Option<usize>
 pub fn put_number(out: &mut [u8], at: usize, lead: &[u8], number: usize) -> Option<usize>
     ensures { (result, out.new) ≡ put out.old at (lead.now ++ decimal number) }
 {
-    let width = number_width(number);
-    if at > out.len() || lead.len() > out.len() - at || width > out.len() - at - lead.len() {
+    let room = out.len().checked_sub(at)?.checked_sub(lead.len())?;
+    if number_width(number) > room {
         return None;
     }
     let digits = lay_bytes(out, at, lead);
@@ -54,7 +55,8 @@ impl Line<'_> {
     pub fn put(&self, out: &mut [u8], at: usize) -> Option<usize>
         ensures { (result, out.new) ≡ put out.old at (line_of self.now) }
     {
-        if at > out.len() || !self.fits(out.len() - at) {
+        let room = out.len().checked_sub(at)?;
+        if !self.fits(room) {
             return None;
         }
         let first = lay_bytes(out, at, self.before);

@@ -18,6 +18,7 @@ use series::call::{Answer, Call, Part};
 use series::replay::replay;
 use sheet::print::print;
 use sheet::refused::refused_line;
+use sheet::sheet::Effort;
 
 // The steps and the dives that a run answered.
 fn counts(answer: Result<Answer, Refusal>) -> (u32, u32)
@@ -106,7 +107,7 @@ fn solve(
     ensures { (result, out.new) ≡ sheet_for variables words.now out.old }
 {
     let (steps, dives) = play(variables, words, trail, values)?;
-    print(steps, dives, variables, words, values, out)
+    print(Effort { steps, dives }, variables, words, values, out)
 }
 
 // The sheet of a table that was read.

@@ -14,6 +14,7 @@ use series::call::{Answer, Call, Part};
 use series::replay::replay;
 use sheet::print::print;
 use sheet::refused::refused_line;
+use sheet::sheet::Effort;
 
 // Room for the words of every table.
 pub const WORDS: usize = 5_120;
@@ -81,7 +82,7 @@ fn search(
     );
     let (steps, dives) = counts(answers[1])?;
     read_values(&engine, values)?;
-    print(steps, dives, variables, words, values, out)
+    print(Effort { steps, dives }, variables, words, values, out)
 }
 
 // The sheet of a table that was read.

@@ -3,7 +3,7 @@
 
 use cnf::refusal::Refusal;
 use cnf::table::{check, check_table};
-use dimacs::read::read;
+use dimacs::read::{Problem, read};
 use std::alloc::AllocError;
 use std::io;
 
@@ -12,27 +12,22 @@ const ROOM: usize = 5_200;
 fn show(rt: &HostRuntime, name: &str, text: &[u8]) -> io::Result<()> {
     let mut words = vec![in rt.alloc(); 0i32; ROOM]?;
     match read(text, &mut words) {
-        Ok(problem) => {
-            let (v, c, n) = (problem.variables, problem.clauses, problem.words);
-            println!(rt; "{name}: {v} variables, {c} clauses, {n} words")
-        }
+        Ok(Problem {
+            variables,
+            clauses,
+            words,
+        }) => println!(rt; "{name}: {variables} variables, {clauses} clauses, {words} words"),
         Err(fault) => {
-            let refusal: Refusal = fault.into();
-            refused(rt, name, refusal)
+            let refusal = Refusal::from(fault);
+            println!(rt; "{name}: {refusal}")
         }
     }
-}
-
-fn refused(rt: &HostRuntime, name: &str, refusal: Refusal) -> io::Result<()> {
-    let number = refusal.check.number();
-    let place = refusal.place;
-    println!(rt; "{name}: refused {number} at {place}")
 }
 
 fn show_table(rt: &HostRuntime, name: &str, variables: usize, words: &[i32]) -> io::Result<()> {
     match check_table(variables, words) {
         Ok(clauses) => println!(rt; "{name}: {clauses} clauses"),
-        Err(refusal) => refused(rt, name, refusal),
+        Err(refusal) => println!(rt; "{name}: {refusal}"),
     }
 }
 
@@ -46,25 +41,25 @@ fn show_check(
     match check(variables, words, start) {
         Ok(Some(clause)) => println!(rt; "{name}: clause {clause} is broken"),
         Ok(None) => println!(rt; "{name}: satisfied"),
-        Err(refusal) => refused(rt, name, refusal),
+        Err(refusal) => println!(rt; "{name}: {refusal}"),
     }
 }
 
 // A head, then a piece so many times, then an end.
-fn repeated(
+fn repeated<T: Copy>(
     rt: &HostRuntime,
-    head: &[u8],
-    piece: &[u8],
+    head: &[T],
+    piece: &[T],
     times: usize,
-    end: &[u8],
-) -> Result<Vec<u8>, AllocError> {
-    let mut text = Vec::new(rt.alloc());
-    text.extend_from_slice(head)?;
+    end: &[T],
+) -> Result<Vec<T>, AllocError> {
+    let mut whole = Vec::new(rt.alloc());
+    whole.extend_from_slice(head)?;
     for _ in 0..times {
-        text.extend_from_slice(piece)?;
+        whole.extend_from_slice(piece)?;
     }
-    text.extend_from_slice(end)?;
-    Ok(text)
+    whole.extend_from_slice(end)?;
+    Ok(whole)
 }
 
 fn small_texts(rt: &HostRuntime) -> io::Result<()> {
@@ -156,23 +151,17 @@ fn tables(rt: &HostRuntime) -> io::Result<()> {
     show_table(rt, "least word", 256, &[i32::MIN, 0])?;
     show_table(rt, "empty table", 1, &[])?;
     show_table(rt, "no variables", 0, &[1, 0])?;
-    let mut words = vec![in rt.alloc(); 1i32; 2_050]?;
-    for (i, w) in words.iter_mut().enumerate() {
-        if i % 2 == 1 {
-            *w = 0;
-        }
-    }
-    show_table(rt, "1,025 clauses", 1, words.as_slice())?;
+    show_table(
+        rt,
+        "1,025 clauses",
+        1,
+        repeated(rt, &[], &[1, 0], 1_025, &[])?.as_slice(),
+    )?;
     show_table(
         rt,
         "1,024 clauses",
         1,
-        words
-            .iter()
-            .take(2_048)
-            .copied()
-            .collect::<Vec<i32>>(rt.alloc())?
-            .as_slice(),
+        repeated(rt, &[], &[1, 0], 1_024, &[])?.as_slice(),
     )?;
     show_check(rt, "both signs", 1, &[1, -1, 0], &[0])?;
     show_check(rt, "second clause", 2, &[-1, 0, 1, 2, 0], &[0, 0])?;

@@ -2,7 +2,7 @@
 #![tactic(auto)]
 
 use cnf::refusal::Check;
-use dimacs::read::read;
+use dimacs::read::{Problem, read};
 use dimacs::write::write;
 use std::alloc::AllocError;
 use std::io;
@@ -67,94 +67,80 @@ fn draw_size(dice: &mut Dice, n: u32) -> Size {
     }
 }
 
-// A table of a size: each clause takes a few literals, and the last one what is left.
-fn table(rt: &HostRuntime, dice: &mut Dice, size: Size) -> Result<Vec<i32>, AllocError> {
-    let mut words = Vec::new(rt.alloc());
-    let mut left = size.literals;
-    for i in 0..size.clauses {
-        let spare = left.saturating_sub(size.clauses - i);
-        let more = if size.clauses - i == 1 {
-            spare
-        } else {
-            dice.below(8).min(spare)
-        };
-        for _ in 0..more {
-            words.push(dice.literal(size.variables))?;
-        }
-        words.push(dice.literal(size.variables))?;
-        words.push(0)?;
-        left = left.saturating_sub(more).saturating_sub(1);
-    }
-    Ok(words)
-}
-
-// The text of a table, if it is accepted.
-fn text_of(
-    rt: &HostRuntime,
-    variables: usize,
-    words: &[i32],
-) -> Result<Option<Vec<u8>>, AllocError> {
-    let mut text = vec![in rt.alloc(); 0u8; LONGEST]?;
-    match write(variables, words, &mut text) {
-        Ok(n) => {
-            text.truncate(n);
-            Ok(Some(text))
-        }
-        Err(_) => Ok(None),
-    }
-}
-
-// Whether a text reads to the table, and no word more is written.
-fn reads_to(
-    rt: &HostRuntime,
-    text: &[u8],
+// A table, and how many variables and clauses it has.
+#[derive(Drop)]
+struct Table {
     variables: usize,
     clauses: usize,
-    words: &[i32],
-) -> Result<bool, AllocError> {
-    let mut back = vec![in rt.alloc(); 0i32; words.len()]?;
-    match read(text, &mut back) {
-        Ok(p) => Ok(
-            p.variables == variables
-                && p.clauses == clauses
-                && p.words == words.len()
-                && back.as_slice() == words,
-        ),
-        Err(_) => Ok(false),
-    }
+    words: Vec<i32>,
 }
 
-fn all_sevens(bytes: &[u8]) -> bool {
-    for b in bytes {
-        if *b != 7 {
-            return false;
+impl Table {
+    // A table of a size: each clause takes a few literals, and the last one what is left.
+    fn draw(rt: &HostRuntime, dice: &mut Dice, size: Size) -> Result<Table, AllocError> {
+        let mut words = Vec::new(rt.alloc());
+        let mut left = size.literals;
+        for behind in (0..size.clauses).rev() {
+            let spare = left.saturating_sub(behind).saturating_sub(1);
+            let more = if behind == 0 {
+                spare
+            } else {
+                dice.below(8).min(spare)
+            };
+            for _ in 0..more {
+                words.push(dice.literal(size.variables))?;
+            }
+            words.push(dice.literal(size.variables))?;
+            words.push(0)?;
+            left = left.saturating_sub(more).saturating_sub(1);
         }
+        Ok(Table {
+            variables: size.variables as usize,
+            clauses: size.clauses as usize,
+            words,
+        })
     }
-    true
-}
 
-// Whether so few bytes are refused as too few, and left unaltered.
-fn refuses(
-    rt: &HostRuntime,
-    room: usize,
-    variables: usize,
-    words: &[i32],
-) -> Result<bool, AllocError> {
-    let mut out = vec![in rt.alloc(); 7u8; room]?;
-    let refused = match write(variables, words, &mut out) {
-        Ok(_) => false,
-        Err(refusal) => refusal.check == Check::BytesRoom && refusal.place == 0,
-    };
-    Ok(refused && all_sevens(&out))
-}
-
-// The table with the longest text.
-fn widest(rt: &HostRuntime) -> Result<Vec<i32>, AllocError> {
-    let mut words = Vec::new(rt.alloc());
-    for _ in 0..1_024 {
-        words.extend_from_slice(&[-256, -256, -256, -256, 0])?;
+    // The table with the longest text.
+    fn widest(rt: &HostRuntime) -> Result<Table, AllocError> {
+        let mut words = Vec::new(rt.alloc());
+        for _ in 0..1_024 {
+            words.extend_from_slice(&[-256, -256, -256, -256, 0])?;
+        }
+        Ok(Table {
+            variables: 256,
+            clauses: 1_024,
+            words,
+        })
     }
-    Ok(words)
+
+    // The text of the table, if it is accepted.
+    fn text(&self, rt: &HostRuntime) -> Result<Option<Vec<u8>>, AllocError> {
+        let mut text = vec![in rt.alloc(); 0u8; LONGEST]?;
+        let Ok(n) = write(self.variables, &self.words, &mut text) else {
+            return Ok(None);
+        };
+        text.truncate(n);
+        Ok(Some(text))
+    }
+
+    // Whether a text reads to the table, and no word more is written.
+    fn is_read_from(&self, rt: &HostRuntime, text: &[u8]) -> Result<bool, AllocError> {
+        let mut back = vec![in rt.alloc(); 0i32; self.words.len()]?;
+        let problem = Problem {
+            variables: self.variables,
+            clauses: self.clauses,
+            words: self.words.len(),
+        };
+        Ok(read(text, &mut back) == Ok(problem) && back == self.words)
+    }
+
+    // Whether so few bytes are refused as too few, and left unaltered.
+    fn is_refused(&self, rt: &HostRuntime, room: usize) -> Result<bool, AllocError> {
+        let mut out = vec![in rt.alloc(); 7u8; room]?;
+        let answer = write(self.variables, &self.words, &mut out);
+        Ok(answer == Err(Check::BytesRoom.at(0)) && out.iter().all(|b| *b == 7))
+    }
 }
 
 // The tables that came back the same, those that were refused for one byte less, and the bytes of the longest text.
@@ -167,21 +153,15 @@ struct Counts {
 
 impl Counts {
     // Writes a table and reads it back.
-    fn take(
-        &mut self,
-        rt: &HostRuntime,
-        variables: usize,
-        clauses: usize,
-        words: &[i32],
-    ) -> Result<(), AllocError> {
-        let Some(text) = text_of(rt, variables, words)? else {
+    fn take(&mut self, rt: &HostRuntime, table: &Table) -> Result<(), AllocError> {
+        let Some(text) = table.text(rt)? else {
             return Ok(());
         };
         self.longest = self.longest.max(text.len());
-        if reads_to(rt, &text, variables, clauses, words)? {
+        if table.is_read_from(rt, &text)? {
             self.same = self.same.saturating_add(1);
         }
-        if refuses(rt, text.len().saturating_sub(1), variables, words)? {
+        if table.is_refused(rt, text.len().saturating_sub(1))? {
             self.refused = self.refused.saturating_add(1);
         }
         Ok(())
@@ -197,10 +177,9 @@ fn main(rt: HostRuntime) -> io::Result<()> {
     };
     for n in 0..TABLES {
         let size = draw_size(&mut dice, n);
-        let words = table(&rt, &mut dice, size)?;
-        counts.take(&rt, size.variables as usize, size.clauses as usize, &words)?;
+        counts.take(&rt, &Table::draw(&rt, &mut dice, size)?)?;
     }
-    counts.take(&rt, 256, 1_024, &widest(&rt)?)?;
+    counts.take(&rt, &Table::widest(&rt)?)?;
     let Counts {
         same,
         refused,

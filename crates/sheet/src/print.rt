@@ -4,8 +4,8 @@ ghost use Rattle.sheet.specs.Promises.{Tells, SeriesLeavesText};
 ghost use Rattle.sheet.specs.Sheets.{added_all, due_of, finished, printed};
 ghost use Rattle.sheet.specs.Texts.{value_text, values_from, value_part, sheet_text};
 
-use crate::sheet::{NO_ROOM, Sheet, head_line};
-use cnf::refusal::Refusal;
+use crate::sheet::{Effort, Sheet, head_line};
+use cnf::refusal::{Check, Refusal};
 use cnf::table;
 use lay::pieces::number_width;
 
@@ -25,8 +25,8 @@ fn values_width(assignment: &[u8]) -> usize
     ensures few { result ≤ 22 * 256 }
 {
     let mut width = 0;
-    for i in 0..assignment.len() {
-        width += value_width(i + 1, assignment[i]);
+    for (i, value) in assignment.iter().enumerate() {
+        width += value_width(i + 1, *value);
     }
     width
 }
@@ -44,15 +44,15 @@ fn line_width(satisfied: bool, assignment: &[u8]) -> usize
 }
 
 // Whether a whole sheet takes at most so many bytes.
-fn sheet_fits(steps: u32, dives: u32, satisfied: bool, assignment: &[u8], room: usize) -> bool
+fn sheet_fits(effort: Effort, satisfied: bool, assignment: &[u8], room: usize) -> bool
     requires { length assignment.now ≤ 256 }
-    ensures { result ≡ nat_le (length (sheet_text steps dives satisfied assignment.now)) room }
+    ensures { result ≡ nat_le (length (sheet_text effort.steps effort.dives satisfied assignment.now)) room }
 {
     let line = line_width(satisfied, assignment);
     if line > room {
         return false;
     }
-    head_line(steps, dives, satisfied).fits(room - line)
+    head_line(effort, satisfied).fits(room - line)
 }
 
 // The values that a sheet takes.
@@ -62,56 +62,34 @@ fn due(satisfied: bool, assignment: &[u8]) -> &[u8]
     if satisfied { assignment } else { b"" }
 }
 
-// Adds values up to the first that is refused.
-fn add_all(sheet: Sheet, values: &[u8], out: &mut [u8]) -> (Sheet, Result<(), Refusal>)
-    ensures { (result, out.new) ≡ added_all sheet values.now out.old }
-{
-    let mut sheet = sheet;
-    for i in 0..values.len() {
-        let (next, outcome) = sheet.add(values[i], out);
-        if let Err(refusal) = outcome {
-            return (next, Err(refusal));
-        }
-        sheet = next;
-    }
-    (sheet, Ok(()))
-}
-
 // Adds the values and closes the sheet; tears it where one of these is refused.
 fn fill(sheet: Sheet, values: &[u8], out: &mut [u8]) -> Result<usize, Refusal>
     ensures { (result, out.new) ≡ finished (added_all sheet values.now out.old) }
 {
-    let (sheet, outcome) = add_all(sheet, values, out);
+    let (sheet, outcome) = sheet.add_all(values, out);
     if let Err(refusal) = outcome {
         let _ = sheet.tear();
         return Err(refusal);
     }
-    match sheet.close(out) {
-        Ok(written) => Ok(written),
-        Err((sheet, refusal)) => {
-            let _ = sheet.tear();
-            Err(refusal)
-        }
-    }
+    sheet.close_or_tear(out)
 }
 
 // Writes a whole sheet, or nothing where it does not fit, and gives the number of bytes.
 pub fn print(
-    steps: u32,
-    dives: u32,
+    effort: Effort,
     variables: usize,
     words: &[i32],
     assignment: &[u8],
     out: &mut [u8],
 ) -> Result<usize, Refusal>
-    ensures text { (result, out.new) ≡ printed steps dives variables words.now assignment.now out.old }
+    ensures text { (result, out.new) ≡ printed effort.steps effort.dives variables words.now assignment.now out.old }
     ensures tells { OnOk result (Tells words.now assignment.now out.new) }
-    ensures series { SeriesLeavesText steps dives variables words.now assignment.now out.old }
+    ensures series { SeriesLeavesText effort.steps effort.dives variables words.now assignment.now out.old }
 {
     let satisfied = table::check(variables, words, assignment)?.is_none();
-    if !sheet_fits(steps, dives, satisfied, assignment, out.len()) {
-        return Err(NO_ROOM);
+    if !sheet_fits(effort, satisfied, assignment, out.len()) {
+        return Err(Check::BytesRoom.at(0));
     }
-    let sheet = Sheet::begin(steps, dives, variables, words, assignment, out)?;
+    let sheet = Sheet::begin(effort, variables, words, assignment, out)?;
     fill(sheet, due(satisfied, assignment), out)
 }

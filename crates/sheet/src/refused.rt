@@ -2,8 +2,7 @@
 ghost use Rattle.std.specs.Prelude.{◌≡◌};
 ghost use Rattle.sheet.specs.RefusedLines.{line_for};
 
-use crate::sheet::NO_ROOM;
-use cnf::refusal::Refusal;
+use cnf::refusal::{Check, Refusal};
 use lay::put::Line;
 
 // Writes `c refused N at P` and a line end, and gives the number of bytes.
@@ -17,8 +16,5 @@ pub fn refused_line(refusal: Refusal, out: &mut [u8]) -> Result<usize, Refusal>
         second: refusal.place,
         after: b"\n",
     };
-    match line.put(out, 0) {
-        Some(written) => Ok(written),
-        None => Err(NO_ROOM),
-    }
+    line.put(out, 0).ok_or(Check::BytesRoom.at(0))
 }

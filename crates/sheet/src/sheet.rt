@@ -2,7 +2,7 @@
 ghost use Rattle.std.specs.Prelude.{◌≡◌, true};
 ghost use Rattle.lay.specs.Laid.{put};
 ghost use Rattle.lay.specs.Lines.{line_of};
-ghost use Rattle.sheet.specs.Sheets.{begun_with, begun, added, closed};
+ghost use Rattle.sheet.specs.Sheets.{begun_with, begun, added, added_all, closed, ended};
 ghost use Rattle.sheet.specs.Texts.{verdict, head_text, lead_of};
 
 use cnf::refusal::{Check, Refusal};
@@ -32,23 +32,12 @@ impl Drop for Sheet {
     }
 }
 
-// The refusal of bytes that do not fit.
-pub(crate) const NO_ROOM: Refusal = Refusal {
-    check: Check::BytesRoom,
-    place: 0,
-};
-
-// The refusal of a value where none is due, and of a closing where one is.
-const NOT_DUE: Refusal = Refusal {
-    check: Check::ValueDue,
-    place: 0,
-};
-
-// The refusal of a value that is neither 0 nor 1.
-const NO_VALUE: Refusal = Refusal {
-    check: Check::StartValues,
-    place: 0,
-};
+// How many steps a run took, and how many dives.
+#[derive(Clone, Copy)]
+pub struct Effort {
+    pub steps: u32,
+    pub dives: u32,
+}
 
 // The line of the verdict, behind the end of the line before it.
 fn verdict_line(satisfied: bool) -> &'static [u8]
@@ -62,19 +51,20 @@ fn verdict_line(satisfied: bool) -> &'static [u8]
 }
 
 // The two lines that a sheet begins with.
-pub(crate) fn head_line(steps: u32, dives: u32, satisfied: bool) -> Line<'static>
-    ensures { line_of result ≡ head_text steps dives satisfied }
+pub(crate) fn head_line(effort: Effort, satisfied: bool) -> Line<'static>
+    ensures { line_of result ≡ head_text effort.steps effort.dives satisfied }
 {
     Line {
         before: b"c steps ",
-        first: steps as usize,
+        first: effort.steps as usize,
         between: b" dives ",
-        second: dives as usize,
+        second: effort.dives as usize,
         after: verdict_line(satisfied),
     }
 }
 
 // What stands before the number of the variable that gets a value.
+// Stays (rule): values are lent as bytes, 0 or 1.
 fn lead(first: bool, value: u8) -> &'static [u8]
     ensures { result.now ≡ lead_of first value }
 {
@@ -89,39 +79,37 @@ fn lead(first: bool, value: u8) -> &'static [u8]
 impl Sheet {
     // Writes the head of a sheet with this verdict, which takes so many values.
     fn start(
-        steps: u32,
-        dives: u32,
+        effort: Effort,
         satisfied: bool,
         values: usize,
         out: &mut [u8],
     ) -> Result<Sheet, Refusal>
-        ensures { (result, out.new) ≡ begun_with values (put out.old 0 (head_text steps dives satisfied)) }
+        ensures { (result, out.new) ≡ begun_with values (put out.old 0 (head_text effort.steps effort.dives satisfied)) }
     {
-        match head_line(steps, dives, satisfied).put(out, 0) {
+        match head_line(effort, satisfied).put(out, 0) {
             Some(written) => Ok(Sheet {
                 written,
                 values,
                 added: 0,
                 spent: false,
             }),
-            None => Err(NO_ROOM),
+            None => Err(Check::BytesRoom.at(0)),
         }
     }
 
     // Begins a sheet: the steps and the dives, and whether the assignment satisfies every clause of the table.
     pub fn begin(
-        steps: u32,
-        dives: u32,
+        effort: Effort,
         variables: usize,
         words: &[i32],
         assignment: &[u8],
         out: &mut [u8],
     ) -> Result<Sheet, Refusal>
-        ensures { (result, out.new) ≡ begun steps dives variables words.now assignment.now out.old }
+        ensures { (result, out.new) ≡ begun effort.steps effort.dives variables words.now assignment.now out.old }
     {
         match table::check(variables, words, assignment)? {
-            None => Sheet::start(steps, dives, true, variables, out),
-            Some(_) => Sheet::start(steps, dives, false, 0, out),
+            None => Sheet::start(effort, true, variables, out),
+            Some(_) => Sheet::start(effort, false, 0, out),
         }
     }
 
@@ -130,10 +118,10 @@ impl Sheet {
         ensures { (result, out.new) ≡ added self value out.old }
     {
         if self.added >= self.values {
-            return (self, Err(NOT_DUE));
+            return (self, Err(Check::ValueDue.at(0)));
         }
         if value > 1 {
-            return (self, Err(NO_VALUE));
+            return (self, Err(Check::StartValues.at(0)));
         }
         let variable = self.added + 1;
         match put_number(out, self.written, lead(self.added == 0, value), variable) {
@@ -142,8 +130,23 @@ impl Sheet {
                 self.added = variable;
                 (self, Ok(()))
             }
-            None => (self, Err(NO_ROOM)),
+            None => (self, Err(Check::BytesRoom.at(0))),
         }
+    }
+
+    // Adds values up to the first that is refused.
+    pub fn add_all(self, values: &[u8], out: &mut [u8]) -> (Sheet, Result<(), Refusal>)
+        ensures { (result, out.new) ≡ added_all self values.now out.old }
+    {
+        let mut sheet = self;
+        for value in values {
+            let (next, outcome) = sheet.add(*value, out);
+            if let Err(refusal) = outcome {
+                return (next, Err(refusal));
+            }
+            sheet = next;
+        }
+        (sheet, Ok(()))
     }
 
     // Ends the line of values, if there is one, and gives the number of bytes since the sheet began.
@@ -151,7 +154,7 @@ impl Sheet {
         ensures { (result, out.new) ≡ closed self out.old }
     {
         if self.added < self.values {
-            return Err((self, NOT_DUE));
+            return Err((self, Check::ValueDue.at(0)));
         }
         let ending: &[u8] = if self.values == 0 { b"" } else { b" 0\n" };
         match put_bytes(out, self.written, ending) {
@@ -159,7 +162,20 @@ impl Sheet {
                 self.spent = true;
                 Ok(written)
             }
-            None => Err((self, NO_ROOM)),
+            None => Err((self, Check::BytesRoom.at(0))),
+        }
+    }
+
+    // Closes a sheet, or tears it where the closing is refused.
+    pub fn close_or_tear(self, out: &mut [u8]) -> Result<usize, Refusal>
+        ensures { (result, out.new) ≡ ended (closed self out.old) }
+    {
+        match self.close(out) {
+            Ok(written) => Ok(written),
+            Err((given_back, refusal)) => {
+                let _ = given_back.tear();
+                Err(refusal)
+            }
         }
     }
 

@@ -3,8 +3,8 @@
 
 mod shortest;
 
-use cnf::refusal::{Check, Refusal};
-use shortest::Bytes;
+use cnf::refusal::Check;
+use shortest::{Bytes, Case};
 use std::io;
 use std::str::from_utf8;
 
@@ -13,47 +13,38 @@ fn show(rt: &HostRuntime, name: &str, out: &Bytes, written: Option<usize>) -> io
     let Some(written) = written else {
         return println!(rt; "{name}: not as it should be");
     };
-    if written <= out.len() {
-        if let Ok(text) = from_utf8(&out[0..written]) {
-            println!(rt;
-                "{name}: {written} bytes, and every shorter buffer is refused and unaltered"
-            )?;
-            return print!(rt; "{text}");
-        }
+    if let Some(bytes) = out.get(..written)
+        && let Ok(text) = from_utf8(bytes)
+    {
+        println!(rt; "{name}: {written} bytes, and every shorter buffer is refused and unaltered")?;
+        return print!(rt; "{text}");
     }
     println!(rt; "{name}: no text")
 }
 
 // A sheet at once, and then the same one call by call.
-fn both_ways(
-    rt: &HostRuntime,
-    variables: usize,
-    words: &[i32],
-    assignment: &[u8],
-    satisfied: bool,
-) -> io::Result<()> {
+fn both_ways(rt: &HostRuntime, case: Case) -> io::Result<()> {
     let mut out = [shortest::BLANK; shortest::ROOM];
-    let printed = shortest::print(variables, words, assignment, &mut out);
+    let printed = shortest::print(case, &mut out);
     show(rt, "at once", &out, printed)?;
     let mut out = [shortest::BLANK; shortest::ROOM];
-    let values: &[u8] = if satisfied { assignment } else { b"" };
-    let written = shortest::series(variables, words, assignment, values, &mut out);
+    let written = shortest::series(case, &mut out);
     show(rt, "call by call", &out, written)
 }
 
 // The line of a refusal.
 fn refusal(rt: &HostRuntime, check: Check, place: usize) -> io::Result<()> {
     let mut out = [shortest::BLANK; shortest::ROOM];
-    let written = shortest::refused(Refusal { check, place }, &mut out);
+    let written = shortest::refused(check.at(place), &mut out);
     show(rt, "refused line", &out, written)
 }
 
 // The values 1 and 0 in turn.
 fn turns() -> [u8; 256] {
     let mut values = [0; 256];
-    for i in 0..256 {
+    for (i, value) in values.iter_mut().enumerate() {
         if i % 2 == 0 {
-            values[i] = 1;
+            *value = 1;
         }
     }
     values
@@ -61,9 +52,27 @@ fn turns() -> [u8; 256] {
 
 fn main(rt: HostRuntime) -> io::Result<()> {
     let words = [1, 2, 0, -1, 3, 0, -2, -3, 0];
-    both_ways(&rt, 3, &words, &[0, 1, 0], true)?;
-    both_ways(&rt, 3, &words, &[0, 0, 0], false)?;
-    both_ways(&rt, 256, &[1, -1, 0], &turns(), true)?;
+    let satisfied = Case {
+        variables: 3,
+        words: &words,
+        assignment: &[0, 1, 0],
+        values: &[0, 1, 0],
+    };
+    both_ways(&rt, satisfied)?;
+    let unknown = Case {
+        assignment: &[0, 0, 0],
+        values: &[],
+        ..satisfied
+    };
+    both_ways(&rt, unknown)?;
+    let values = turns();
+    let largest = Case {
+        variables: 256,
+        words: &[1, -1, 0],
+        assignment: &values,
+        values: &values,
+    };
+    both_ways(&rt, largest)?;
     refusal(&rt, Check::VariableRange, 10)?;
     refusal(&rt, Check::ValueDue, usize::MAX)
 }

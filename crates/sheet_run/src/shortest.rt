@@ -2,146 +2,118 @@
 use cnf::refusal::{Check, Refusal};
 use sheet::print::print as print_sheet;
 use sheet::refused::refused_line;
-use sheet::sheet::Sheet;
+use sheet::sheet::{Effort, Sheet};
 
 pub const ROOM: usize = 2048;
 
-pub const BLANK: u8 = 35;
+pub const BLANK: u8 = b'#';
 
-pub type Bytes = [u8; 2048];
+pub type Bytes = [u8; ROOM];
 
-const STEPS: u32 = 4294967295;
-
-const DIVES: u32 = 17;
-
-// Whether a call refused only for want of room, and altered nothing.
-fn no_room(refusal: Refusal, before: &Bytes, after: &Bytes) -> bool {
-    refusal.check.number() == 17 && refusal.place == 0 && before[0..ROOM] == after[0..ROOM]
+// A table, an assignment of its variables, and the values that their sheet takes.
+#[derive(Clone, Copy)]
+pub struct Case<'a> {
+    pub variables: usize,
+    pub words: &'a [i32],
+    pub assignment: &'a [u8],
+    pub values: &'a [u8],
 }
 
-// The number of bytes, where the call took just the room that there was.
-fn exactly(written: usize, room: usize) -> Option<usize> {
-    if written == room { Some(room) } else { None }
-}
+const EFFORT: Effort = Effort {
+    steps: u32::MAX,
+    dives: 17,
+};
 
-pub fn print(variables: usize, words: &[i32], assignment: &[u8], out: &mut Bytes) -> Option<usize> {
+// Makes a call in more and more room, from so much on, and gives what it made and the room that it took. It gives back what the
+// last call was made of where none is accepted, where one is refused for more than want of room, or where one altered a byte.
+fn shortest<S, T, C: Fn(S, &mut [u8]) -> Result<T, (S, Refusal)>>(
+    state: S,
+    from: usize,
+    out: &mut Bytes,
+    call: C,
+) -> Result<(T, usize), S>
+    requires { C.IsAlwaysCallable call }
+{
     let before = *out;
-    for room in 0..ROOM {
-        match print_sheet(
-            STEPS,
-            DIVES,
-            variables,
-            words,
-            assignment,
-            &mut out[0..room],
-        ) {
-            Ok(written) => return exactly(written, room),
-            Err(refusal) => {
-                if !no_room(refusal, &before, out) {
-                    return None;
+    let mut state = state;
+    for room in from..ROOM {
+        match call(state, &mut out[..room]) {
+            Ok(made) => return Ok((made, room)),
+            Err((given_back, refusal)) => {
+                state = given_back;
+                if refusal != Check::BytesRoom.at(0) || *out != before {
+                    break;
                 }
             }
         }
     }
-    None
+    Err(state)
+}
+
+// The number of bytes, where a call took just the room that there was.
+fn exactly(written: usize, room: usize) -> Option<usize> {
+    (written == room).then_some(room)
+}
+
+pub fn print(case: Case, out: &mut Bytes) -> Option<usize> {
+    let (written, room) = shortest((), 0, out, |(), lent| {
+        print_sheet(EFFORT, case.variables, case.words, case.assignment, lent).map_err(|refusal| (
+            (),
+            refusal,
+        ))
+    })
+    .ok()?;
+    exactly(written, room)
 }
 
 pub fn refused(refusal: Refusal, out: &mut Bytes) -> Option<usize> {
-    let before = *out;
-    for room in 0..ROOM {
-        match refused_line(refusal, &mut out[0..room]) {
-            Ok(written) => return exactly(written, room),
-            Err(other) => {
-                if !no_room(other, &before, out) {
-                    return None;
-                }
-            }
-        }
-    }
-    None
+    let (written, room) = shortest((), 0, out, |(), lent| {
+        refused_line(refusal, lent).map_err(|other| ((), other))
+    })
+    .ok()?;
+    exactly(written, room)
 }
 
-fn begin(
-    variables: usize,
-    words: &[i32],
-    assignment: &[u8],
-    out: &mut Bytes,
-) -> Option<(Sheet, usize)> {
-    let before = *out;
-    for room in 0..ROOM {
-        match Sheet::begin(
-            STEPS,
-            DIVES,
-            variables,
-            words,
-            assignment,
-            &mut out[0..room],
-        ) {
-            Ok(sheet) => return Some((sheet, room)),
-            Err(refusal) => {
-                if !no_room(refusal, &before, out) {
-                    return None;
-                }
-            }
-        }
-    }
-    None
+fn begin(case: Case, out: &mut Bytes) -> Option<(Sheet, usize)> {
+    shortest((), 0, out, |(), lent| {
+        Sheet::begin(EFFORT, case.variables, case.words, case.assignment, lent).map_err(|refusal| (
+            (),
+            refusal,
+        ))
+    })
+    .ok()
 }
 
-fn add(sheet: Sheet, value: u8, from: usize, out: &mut Bytes) -> (Sheet, Option<usize>) {
-    let before = *out;
-    let mut sheet = sheet;
-    for room in from..ROOM {
-        let (next, outcome) = sheet.add(value, &mut out[0..room]);
-        sheet = next;
+fn add(sheet: Sheet, value: u8, from: usize, out: &mut Bytes) -> Result<(Sheet, usize), Sheet> {
+    shortest(sheet, from, out, |sheet, lent| {
+        let (sheet, outcome) = sheet.add(value, lent);
         match outcome {
-            Ok(()) => return (sheet, Some(room)),
-            Err(refusal) => {
-                if !no_room(refusal, &before, out) {
-                    return (sheet, None);
-                }
-            }
+            Ok(()) => Ok(sheet),
+            Err(refusal) => Err((sheet, refusal)),
         }
-    }
-    (sheet, None)
+    })
 }
 
 fn close(sheet: Sheet, from: usize, out: &mut Bytes) -> Option<usize> {
-    let before = *out;
-    let mut sheet = sheet;
-    for room in from..ROOM {
-        match sheet.close(&mut out[0..room]) {
-            Ok(written) => return exactly(written, room),
-            Err((given_back, refusal)) => {
-                sheet = given_back;
-                if !no_room(refusal, &before, out) {
-                    let _ = sheet.tear();
-                    return None;
-                }
-            }
+    match shortest(sheet, from, out, |sheet, lent| sheet.close(lent)) {
+        Ok((written, room)) => exactly(written, room),
+        Err(sheet) => {
+            let _ = sheet.tear();
+            None
         }
     }
-    let _ = sheet.tear();
-    None
 }
 
 // Begins a sheet, adds the values and closes it, each call tried from a byte less than is written already.
-pub fn series(
-    variables: usize,
-    words: &[i32],
-    assignment: &[u8],
-    values: &[u8],
-    out: &mut Bytes,
-) -> Option<usize> {
-    let (first, head) = begin(variables, words, assignment, out)?;
-    let mut sheet = first;
-    let mut written = head;
-    for value in values {
-        let (next, room) = add(sheet, *value, written.saturating_sub(1), out);
-        sheet = next;
-        match room {
-            Some(room) => written = room,
-            None => {
+pub fn series(case: Case, out: &mut Bytes) -> Option<usize> {
+    let (mut sheet, mut written) = begin(case, out)?;
+    for value in case.values {
+        match add(sheet, *value, written.saturating_sub(1), out) {
+            Ok((next, room)) => {
+                sheet = next;
+                written = room;
+            }
+            Err(sheet) => {
                 let _ = sheet.tear();
                 return None;
             }

@@ -1,9 +1,13 @@
 -- The first word after a position.
 use Rattle.std.proofs.Common.{◌≡◌, ℕ, ◌+◌, ◌-◌, ◌<◌, ◌≤◌, true, false, List, [], ◌∷◌, length, take, drop, sym, refl, ap, ◌∙◌, arith}
-use Rattle.std.proofs.lemmas.List.{drop-drop, length-drop, length-take}
+use Rattle.std.proofs.lemmas.List.{drop-drop, length-drop, length-take, take_all}
 use Rattle.std.proofs.lemmas.List.Sums.{prefix_len-le-length}
 use Rattle.words.specs.Numbers.{is_number}
 use Rattle.words.specs.Words.{white, dark, skipped, letters, word_of, after, token, word, end, sorted, word_from}
+
+-- a text from a place on
+pub rest_is : (bs : List ℕ) (p : ℕ) → take (length bs - p) (drop p bs) ≡ drop p bs
+rest_is bs p = take_all (length bs - p) (drop p bs) (omega (arith, length-drop p bs))
 
 pub start_within : (bs : List ℕ) (p start : ℕ) → p ≤ length bs → start ≡ p + skipped (drop p bs) → start ≤ length bs
 start_within bs p start h s = omega (arith, prefix_len-le-length white (drop p bs), length-drop p bs)

@@ -30,10 +30,8 @@ impl From<(WordFault, usize)> for ClauseFault {
     ghost from_gives = { λ w c. c ≡ beside_clause w };
 
     fn from(beside: (WordFault, usize)) -> ClauseFault {
-        ClauseFault::Word {
-            word: beside.0,
-            clause: beside.1,
-        }
+        let (word, clause) = beside;
+        ClauseFault::Word { word, clause }
     }
 }
 
@@ -58,14 +56,8 @@ impl From<WordFault> for Refusal {
 
     fn from(fault: WordFault) -> Refusal {
         match fault {
-            WordFault::NotANumber(place) => Refusal {
-                check: Check::NumberForm,
-                place,
-            },
-            WordFault::TooLarge(place) => Refusal {
-                check: Check::NumberSize,
-                place,
-            },
+            WordFault::NotANumber(place) => Check::NumberForm.at(place),
+            WordFault::TooLarge(place) => Check::NumberSize.at(place),
         }
     }
 }

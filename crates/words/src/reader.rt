@@ -1,6 +1,6 @@
 // The reader's walk: one word after another.
-ghost use Rattle.std.specs.Prelude.{◌≡◌, ◌+◌, ◌≤◌, min, length, drop};
-ghost use Rattle.words.specs.Words.{white, letters, skipped, after, said, word_from, place_of, said_number};
+ghost use Rattle.std.specs.Prelude.{◌≡◌, ◌+◌, min, length, drop};
+ghost use Rattle.words.specs.Words.{white, after, said, word_from, place_of, said_number};
 ghost use Rattle.words.specs.Readers.{Met};
 
 use crate::faults::WordFault;
@@ -11,31 +11,7 @@ use crate::word::{Reader, Word};
 fn is_white(b: u8) -> bool
     ensures { result ≡ white b }
 {
-    b == 9 || b == 10 || b == 13 || b == 32
-}
-
-// Where the white space at `from` ends.
-fn skip(text: &[u8], from: usize) -> usize
-    requires { from ≤ length text.now }
-    ensures { result ≡ from + skipped (drop from text.now) }
-{
-    let mut i = from;
-    while i < text.len() && is_white(text[i]) {
-        i += 1;
-    }
-    i
-}
-
-// Where the word at `from` ends.
-fn word_end(text: &[u8], from: usize) -> usize
-    requires { from ≤ length text.now }
-    ensures { result ≡ from + letters (drop from text.now) }
-{
-    let mut i = from;
-    while i < text.len() && !is_white(text[i]) {
-        i += 1;
-    }
-    i
+    matches!(b, b'\t' | b'\n' | b'\r' | b' ')
 }
 
 impl<'a> Reader<'a> {
@@ -64,8 +40,13 @@ impl<'a> Reader<'a> {
         ensures met { Met self.old (said result) self.new }
     {
         let text = self.text;
-        let start = skip(text, self.pos);
-        let end = word_end(text, start);
+        let skipped = text[self.pos..]
+            .iter()
+            .take_while(|b| is_white(**b))
+            .count();
+        let start = self.pos + skipped;
+        let letters = text[start..].iter().take_while(|b| !is_white(**b)).count();
+        let end = start + letters;
         self.pos = end;
         if start == end {
             return Word::End(start);

@@ -10,7 +10,7 @@ abbrev pub invariant-loop-next : goal.invariant-loop-next
 invariant-loop-next l =
     (l.reader.text.now ≡ l.text)
     × (l.tally.ended ≤ 1024)
-    × (clauses_from l.variables l.clauses (length l.text) l.tally (left l.reader) ≡ clauses_from l.variables l.clauses (length l.text) no_words (tokens l.from (drop l.from l.text)))
+    × (clauses_from l.head.variables l.head.clauses (length l.text) l.tally (left l.reader) ≡ clauses_from l.head.variables l.head.clauses (length l.text) no_words (tokens l.head.end (drop l.head.end l.text)))
 
 abbrev pub decreases-loop-next : goal.decreases-loop-next
 decreases-loop-next l = length l.reader.text.now - l.reader.pos

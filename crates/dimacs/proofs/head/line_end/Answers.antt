@@ -1,18 +1,18 @@
-use Rattle.std.proofs.Common.{◌≡◌, get_or, ◌∙◌, arith}
-use Rattle.dimacs.proofs.Heads.{line_more, line_stops, line_all}
+use Rattle.std.proofs.Common.{◌+◌, ◌∙◌, drop, ap, rules}
+use borrow.Author.Tests.{tests}
+use Rattle.std.specs.Slice.Iter.{iter_rest}
+use Rattle.std.proofs.lemmas.Iterator.{YieldsList-from_slice}
+use Rattle.std.proofs.lemmas.Iterator.Consumers.{count_from_yields_List}
+use Rattle.std.proofs.lemmas.Iterator.Search.{YieldsList-from_take_while}
+use Rattle.std.proofs.lemmas.List.Folds.{length-prefix_len}
+use Rattle.dimacs.specs.Heads.{in_line}
+use Rattle.dimacs.proofs.Heads.{rest_is}
 use Rattle.dimacs.proofs.head.line_end.Goals as goal
 
-pub loop-i-preserved : goal.loop-i-preserved
-loop-i-preserved c = (omega arith, line_more c.args.text.now c.loop-i.i c.loop-i-test.true c.if-text-i-ne10.true ∙ c.loop-i.invariant.1)
-
-pub returns-else-text-i-ne10 : goal.returns-else-text-i-ne10
-returns-else-text-i-ne10 c =
-    let e : get_or c.args.text.now c.loop-i.i 0 ≡ 10 = c.if-text-i-ne10.false in
-    record { value = line_stops c.args.text.now c.loop-i.i c.loop-i-test.true e ∙ c.loop-i.invariant.1; within = c.loop-i.invariant.0; stops = λ _. e }
-
-pub returns-after-loop-i : goal.returns-after-loop-i
-returns-after-loop-i c = record {
-  value = line_all c.args.text.now c.loop-i.i c.loop-i-test.false ∙ c.loop-i.invariant.1;
-  within = c.loop-i.invariant.0;
-  stops = λ h. absurd (omega arith);
-}
+pub returns-clause-value : goal.returns-clause-value
+returns-clause-value c =
+    let rest = drop c.args.from c.args.text.now in
+    ap (λ n. c.args.from + n) (
+    count_from_yields_List c.take_while.result c.count.result c.count.ensures.ran (YieldsList-from_take_while _ in_line (YieldsList-from_slice rest (ap iter_rest c.take_while.ensures.source ∙ c.iter.ensures.rest ∙ rest_is c.args.text.now c.args.from)) c.take_while.ensures.closure c.take_while.ensures.done (λ x b q k. search (rules, tests)))
+    ∙ length-prefix_len in_line rest
+    )

@@ -17,22 +17,11 @@ laid_word c =
       end = c.lay_word-end.ensures.end ∙ ap (λ w. c.args.at + length (signed_decimal w)) z;
     }
 
-pub lay_word-end-requires : goal.lay_word-end-requires
-lay_word-end-requires c =
-    let e = ap (λ w. length (signed_decimal w)) (to_z-of_z w32 c.args.word c.ranges.word) in
-    omega (arith, length-piece c.args.word)
-
 room : (c : After-lay_word-end) → c.lay_word-end.result + 1 ≤ length c.lay_word-end.new.out
 room c =
     let s = laid_word c in
     let l = length-laid c.args.out.now (signed_decimal c.args.word) c.args.at (omega (arith, length-piece c.args.word)) in
     omega (arith, s.end, ap length s.bytes, length-piece c.args.word)
-
-pub lay_bytes-requires : goal.lay_bytes-requires
-lay_bytes-requires c = room (goal.at.lay_bytes-requires c).After-lay_word-end
-
-pub lay_bytes-requires-else-word-eq0 : goal.lay_bytes-requires-else-word-eq0
-lay_bytes-requires-else-word-eq0 c = room (goal.at.lay_bytes-requires-else-word-eq0 c).After-lay_word-end
 
 pub returns-then-word-eq0 : goal.returns-then-word-eq0
 returns-then-word-eq0 c =

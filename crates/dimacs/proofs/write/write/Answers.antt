@@ -1,4 +1,4 @@
-use Rattle.std.proofs.Common.{◌≡◌, ◌+◌, length, Ok, Err, sym, ap, ◌∙◌, arith, rules}
+use Rattle.std.proofs.Common.{◌≡◌, ◌+◌, length, Ok, Err, sym, ap, ◌∙◌, arith}
 use Rattle.std.proofs.lemmas.Bool.{cond-true, cond-false, leb-true, leb-false, le-leb, lt-leb}
 use Rattle.lay.specs.Laid.{laid}
 use Rattle.lay.proofs.Laying.{laid-laid}
@@ -13,9 +13,6 @@ use Rattle.dimacs.proofs.write.write.Goals as goal
 pub words_width-width-requires : goal.words_width-width-requires
 words_width-width-requires c = few_words c.args.variables c.args.words.now c.in_ok-clauses.clauses (sym c.in_ok-clauses.ensures.value)
 
-pub returns-in_err-clauses : goal.returns-in_err-clauses
-returns-in_err-clauses c = record { answer = search rules; bytes = search rules; back = reads_back c.args.variables c.args.words.now }
-
 pub returns-then-not-fit : goal.returns-then-not-fit
 returns-then-not-fit c =
     let v = c.args.variables in
@@ -26,7 +23,7 @@ returns-then-not-fit c =
     let l = text_length v ws n e in
     let x = leb-false _ _ (sym c.if-not-fit.ensures) in
     let r : written v ws (length c.args.out.now) ≡ Err (refused BytesRoom 0) = written_is v ws n e (length c.args.out.now) ∙ cond-false _ _ _ (lt-leb (length (table_text v (clauses_of ws))) (length c.args.out.now) (omega (arith, c.words_width-width.ensures))) in
-    record { answer = sym r; bytes = sym (ap (λ y. bytes_after y (table_text v (clauses_of ws)) c.args.out.now) r); back = reads_back v ws }
+    record { answer = ap Err c.at.ensures ∙ sym r; bytes = sym (ap (λ y. bytes_after y (table_text v (clauses_of ws)) c.args.out.now) r); back = reads_back v ws }
 
 pub returns : goal.returns
 returns c =

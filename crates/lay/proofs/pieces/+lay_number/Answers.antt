@@ -14,9 +14,6 @@ lay_number-last-requires t c = (omega arith, omega (arith, width_step c.args.num
 pub bounds-out-last : goal.bounds-out-last
 bounds-out-last t c = omega (arith, width_step c.args.number (omega arith) (omega arith))
 
-pub overflow_add-result-2 : goal.overflow_add-result-2
-overflow_add-result-2 t c = record { fits = omega (arith, width_step c.args.number (omega arith) (omega arith)) }
-
 pub returns-then-number-lt10 : goal.returns-then-number-lt10
 returns-then-number-lt10 t c =
     let e : decimal c.args.number ≡ (48 + c.args.number) ∷ [] = decimal_digit c.args.number c.if-number-lt10.true in

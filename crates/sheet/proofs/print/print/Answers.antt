@@ -1,10 +1,10 @@
-use Rattle.std.proofs.Common.{◌≡◌, ◌<◌, ◌≤◌, length, Ok, sym, ap, ◌∙◌, subst, arith}
+use Rattle.std.proofs.Common.{◌≡◌, ◌<◌, ◌≤◌, length, Ok, Err, sym, ap, ◌∙◌, subst, arith}
 use Rattle.std.proofs.lemmas.Bool.{leb-true, leb-false}
 use Rattle.cnf.specs.Scans.{judged}
 use Rattle.sheet.specs.Sheets.{is_none, added_all, due_of, finished}
 use Rattle.sheet.specs.Texts.{sheet_text}
-use Rattle.sheet.proofs.Judgements.{accepted, said_none}
-use Rattle.sheet.proofs.Whole.{series_leaves_text, printed_short, begin_accepts, series_prints, printed_tells}
+use Rattle.sheet.proofs.Judgements.{said_none}
+use Rattle.sheet.proofs.Whole.{series_leaves_text, printed_short, series_prints, printed_tells}
 use Rattle.sheet.proofs.print.print.Goals as goal
 use Rattle.sheet.proofs.print.print.Goals.{After-is_none-satisfied}
 
@@ -14,30 +14,19 @@ told c = sym c.check.ensures.value ∙ c.in_ok-check.was
 says : (c : After-is_none-satisfied) → c.is_none-satisfied.result ≡ is_none c.in_ok-check.field-0
 says c = said_none c.in_ok-check.field-0 c.is_none-satisfied.result c.is_none-satisfied.ensures
 
-pub sheet_fits-requires : goal.sheet_fits-requires
-sheet_fits-requires c =
-    let t = accepted c.args.variables c.args.words.now c.args.assignment.now c.in_ok-check.field-0 (told (goal.at.sheet_fits-requires c).After-is_none-satisfied) in
-    omega (arith, t.long, t.variables)
-
 -- the text that was tested for room is the one to print
-same : (c : After-is_none-satisfied) → length (sheet_text c.args.steps c.args.dives c.is_none-satisfied.result c.args.assignment.now) ≡ length (sheet_text c.args.steps c.args.dives (is_none c.in_ok-check.field-0) c.args.assignment.now)
-same c = ap (λ b. length (sheet_text c.args.steps c.args.dives b c.args.assignment.now)) (says c)
+same : (c : After-is_none-satisfied) → length (sheet_text c.args.effort.steps c.args.effort.dives c.is_none-satisfied.result c.args.assignment.now) ≡ length (sheet_text c.args.effort.steps c.args.effort.dives (is_none c.in_ok-check.field-0) c.args.assignment.now)
+same c = ap (λ b. length (sheet_text c.args.effort.steps c.args.effort.dives b c.args.assignment.now)) (says c)
 
 pub returns-then-not-sheet_fits : goal.returns-then-not-sheet_fits
 returns-then-not-sheet_fits c =
     let k = (goal.at.returns-then-not-sheet_fits c).After-is_none-satisfied in
     let long = subst (λ n. length c.args.out.now < n) (same k) (leb-false _ _ (sym c.if-not-sheet_fits.ensures)) in
     record {
-      text = printed_short c.args.steps c.args.dives c.args.variables c.args.words.now c.args.assignment.now c.args.out.now c.in_ok-check.field-0 (told k) long;
+      text = ap (λ r. (Err r, c.args.out.now)) c.at.ensures ∙ printed_short c.args.effort.steps c.args.effort.dives c.args.variables c.args.words.now c.args.assignment.now c.args.out.now c.in_ok-check.field-0 (told k) long;
       tells = tt;
-      series = series_leaves_text c.args.steps c.args.dives c.args.variables c.args.words.now c.args.assignment.now c.args.out.now (omega arith) (omega arith) c.check.ensures.names;
+      series = series_leaves_text c.args.effort.steps c.args.effort.dives c.args.variables c.args.words.now c.args.assignment.now c.args.out.now (omega arith) (omega arith) c.check.ensures.names;
     }
-
-pub returns-in_err-sheet : goal.returns-in_err-sheet
-returns-in_err-sheet c =
-    let k = (goal.at.returns-in_err-sheet c).After-is_none-satisfied in
-    let room = subst (λ n. n ≤ length c.args.out.now) (same k) (leb-true _ _ (sym c.if-not-sheet_fits.ensures)) in
-    absurd (begin_accepts c.args.steps c.args.dives c.args.variables c.args.words.now c.args.assignment.now c.args.out.now c.in_ok-check.field-0 (told k) room c.begin.result c.begin.new.out c.in_err-sheet.field-0.0 c.begin.ensures c.in_err-sheet.was)
 
 pub returns : goal.returns
 returns c =
@@ -47,9 +36,9 @@ returns c =
     let text =
     c.fill.ensures
     ∙ ap (λ bs. finished (added_all c.in_ok-sheet.sheet bs c.begin.new.out)) values
-    ∙ series_prints c.args.steps c.args.dives c.args.variables c.args.words.now c.args.assignment.now c.args.out.now c.in_ok-check.field-0 (told k) room c.begin.result c.in_ok-sheet.sheet c.begin.new.out c.begin.ensures c.in_ok-sheet.was in
+    ∙ series_prints c.args.effort.steps c.args.effort.dives c.args.variables c.args.words.now c.args.assignment.now c.args.out.now c.in_ok-check.field-0 (told k) room c.begin.result c.in_ok-sheet.sheet c.begin.new.out c.begin.ensures c.in_ok-sheet.was in
     record {
       text = text;
-      tells = printed_tells c.args.steps c.args.dives c.args.variables c.args.words.now c.args.assignment.now c.args.out.now c.fill.result c.fill.new.out text (omega arith) (omega arith) c.check.ensures.names;
-      series = series_leaves_text c.args.steps c.args.dives c.args.variables c.args.words.now c.args.assignment.now c.args.out.now (omega arith) (omega arith) c.check.ensures.names;
+      tells = printed_tells c.args.effort.steps c.args.effort.dives c.args.variables c.args.words.now c.args.assignment.now c.args.out.now c.fill.result c.fill.new.out text (omega arith) (omega arith) c.check.ensures.names;
+      series = series_leaves_text c.args.effort.steps c.args.effort.dives c.args.variables c.args.words.now c.args.assignment.now c.args.out.now (omega arith) (omega arith) c.check.ensures.names;
     }

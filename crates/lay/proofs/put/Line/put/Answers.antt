@@ -1,24 +1,8 @@
-use Rattle.std.proofs.Common.{◌≡◌, ◌+◌, ◌≤◌, ◌++◌, length, decimal, ap, ◌∙◌, append_assoc, arith}
+use Rattle.std.proofs.Common.{◌≡◌, ◌+◌, ◌≤◌, ◌++◌, length, decimal, ap, ◌∙◌, append_assoc, rules}
 use Rattle.lay.specs.Laid.{laid}
 use Rattle.lay.specs.Lines.{line_of}
 use Rattle.lay.proofs.Laying.{Stands, stands_more, stands_put}
-use Rattle.lay.proofs.Lines.{length_line, line_room}
 use Rattle.lay.proofs.put.Line.put.Goals as goal
-
-pub lay_bytes-first-requires : goal.lay_bytes-first-requires
-lay_bytes-first-requires c = omega (arith, line_room c.args.self.now (length c.args.out.now) c.args.at c.if-at-out.false c.if-not-fits.ensures)
-
-pub lay_number-between-requires : goal.lay_number-between-requires
-lay_number-between-requires c = omega (arith, line_room c.args.self.now (length c.args.out.now) c.args.at c.if-at-out.false c.if-not-fits.ensures)
-
-pub lay_bytes-second-requires : goal.lay_bytes-second-requires
-lay_bytes-second-requires c = omega (arith, line_room c.args.self.now (length c.args.out.now) c.args.at c.if-at-out.false c.if-not-fits.ensures)
-
-pub lay_number-after-requires : goal.lay_number-after-requires
-lay_number-after-requires c = omega (arith, line_room c.args.self.now (length c.args.out.now) c.args.at c.if-at-out.false c.if-not-fits.ensures)
-
-pub lay_bytes-requires : goal.lay_bytes-requires
-lay_bytes-requires c = omega (arith, line_room c.args.self.now (length c.args.out.now) c.args.at c.if-at-out.false c.if-not-fits.ensures)
 
 pub returns : goal.returns
 returns c =
@@ -30,8 +14,8 @@ returns c =
     let b = l.between.now in
     let n = decimal l.second in
     let d = l.after.now in
-    let h : at ≤ length out = c.if-at-out.false in
-    let room : at + length (line_of l) ≤ length out = omega (arith, length_line l, line_room l (length out) at c.if-at-out.false c.if-not-fits.ensures) in
+    let h : at ≤ length out = search rules in
+    let room : at + length (line_of l) ≤ length out = search rules in
     let s0 : Stands out at a c.lay_bytes-first.new.out c.lay_bytes-first.result = record { bytes = c.lay_bytes-first.ensures.bytes; end = c.lay_bytes-first.ensures.end } in
     let s1 = stands_more out at a _ _ m _ _ h s0 c.lay_number-between.ensures.bytes c.lay_number-between.ensures.end in
     let s2 = stands_more out at (a ++ m) _ _ b _ _ h s1 c.lay_bytes-second.ensures.bytes c.lay_bytes-second.ensures.end in
