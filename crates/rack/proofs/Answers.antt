@@ -2,7 +2,7 @@
 use Rattle.std.proofs.Common.{◌≡◌, ℕ, ◌+◌, ◌≤◌, Bool, true, false, cond, leb, List, ◌++◌, length, take, drop, ℤ, Some, None, Ok, Err, Option, Result, refl, ap, ◌∙◌, arith}
 use Rattle.std.proofs.lemmas.Bool.{leb-true}
 use Rattle.std.proofs.lemmas.List.{take_all, take-append-le}
-use Rattle.std.specs.Result.{result_unwrap_or}
+use Rattle.std.specs.Result.{IfOk, result_unwrap_or}
 use Rattle.cnf.specs.declared.refusal.Refusal.{Refusal}
 use Rattle.cnf.specs.Scans.{judged}
 use Rattle.words.specs.declared.faults.HeadFault.{HeadFault}
@@ -23,8 +23,7 @@ read_words text old p e n =
 
 -- a number of bytes that was given is at most n
 abbrev pub Within : ℕ → (Result ℕ Refusal × List ℕ) → Type 0
-Within n (Ok k, out) = k ≤ n
-Within n (Err r, out) = Unit {0}
+Within n (r, out) = IfOk r (λ k. k ≤ n)
 
 fitted_by : (n : ℕ) (bytes out : List ℕ) (t : Bool) → leb n (length out) ≡ t → Within (length out) (fitted (cond t (Some n, bytes) (None, out)))
 fitted_by n bytes out true e = leb-true _ _ e
@@ -37,12 +36,8 @@ printed_by_lem : (steps dives : ℕ) (a out : List ℕ) (r : Result (Option ℕ)
 printed_by_lem steps dives a out (Ok o) = fitted-within (0 + length (sheet_text steps dives (is_none o) a)) _ out
 printed_by_lem steps dives a out (Err e) = tt
 
-printed-within : (steps dives v : ℕ) (ws : List ℤ) (a out : List ℕ) → Within (length out) (printed steps dives v ws a out)
+pub printed-within : (steps dives v : ℕ) (ws : List ℤ) (a out : List ℕ) → Within (length out) (printed steps dives v ws a out)
 printed-within steps dives v ws a out = printed_by_lem steps dives a out (judged v ws a)
-
-pub sheet_within : (text : List ℕ) (r : Result Problem HeadFault) (out : List ℕ) → Within (length out) (sheet_of text r out)
-sheet_within text (Ok p) out = printed-within _ _ p.variables (text_words text) _ out
-sheet_within text (Err f) out = tt
 
 pub line_within : (r : Refusal) (out : List ℕ) → Within (length out) (line_for r out)
 line_within r out = fitted-within (0 + length (refused_text r)) _ out

@@ -1,5 +1,5 @@
 -- The load of a legal table and the run on it are accepted, and what they come to.
-use Rattle.std.proofs.Common.{◌≡◌, ℕ, zero, suc, ◌+◌, ◌≤◌, List, [], ◌∷◌, length, take, replicate, ℤ, Some, None, Ok, refl, ap, ◌∙◌, arith}
+use Rattle.std.proofs.Common.{◌≡◌, ℕ, zero, suc, ◌+◌, ◌≤◌, List, [], ◌∷◌, length, take, min, replicate, ℤ, Some, None, Ok, refl, ap, ◌∙◌, arith}
 use Rattle.std.proofs.lemmas.List.{length-replicate, take_all}
 use Rattle.std.proofs.lemmas.List.Sums.{count_by-le-length}
 use Rattle.std.proofs.lemmas.Bool.{cond-true, le-leb, and_from, eq-eqb}
@@ -29,7 +29,7 @@ use Rattle.series.specs.Laws as laws
 use Rattle.series.specs.Series.{lent, given, ran_as, Performed, told, load_with, perform, onto, went}
 use Rattle.series.specs.Promises.{series}
 use Rattle.rack.specs.Answers.{begins, ran}
-use Rattle.rack.specs.Parts.{Holds, load_and_run}
+use Rattle.rack.specs.Parts.{Holds, effort_of, load_and_run}
 
 abbrev front : ℕ → Part
 front n = record { from = 0; to = n }
@@ -105,12 +105,19 @@ few f u (suc b) m s =
     few_by a.answer (run f u b a.model (left u a.answer s)) m s b (few f u b a.model (left u a.answer s))
 
 -- a run makes at most as many moves as it is given
-pub ran_few : (seed b : ℕ) (m : Model) → length (ran seed b m).moves ≤ b
+ran_few : (seed b : ℕ) (m : Model) → length (ran seed b m).moves ≤ b
 unfolding ran
 ran_few seed b m = few cca generator b m (holding seed)
 
-pub ran_dives : (seed b : ℕ) (m : Model) → dives_in (ran seed b m).moves ≤ b
+ran_dives : (seed b : ℕ) (m : Model) → dives_in (ran seed b m).moves ≤ b
 ran_dives seed b m = omega (arith, count_by-le-length is_dive (ran seed b m).moves, ran_few seed b m)
+
+-- 32 bits hold the steps and the dives of a run of so many moves
+pub effort_is : (seed b : ℕ) (m : Model) → b ≤ 4294967295 → effort_of (Ok (ran_as (counts (ran seed b m)))) ≡ Ok (record { steps = length (ran seed b m).moves; dives = dives_in (ran seed b m).moves })
+effort_is seed b m h =
+    let s : min (length (ran seed b m).moves) 4294967295 ≡ length (ran seed b m).moves = omega (arith, ran_few seed b m) in
+    let d : min (dives_in (ran seed b m).moves) 4294967295 ≡ dives_in (ran seed b m).moves = omega (arith, ran_dives seed b m) in
+    λ i. Ok (record { steps = s i; dives = d i })
 
 -- a run keeps the variables, and a value for each
 pub ran-holds : (seed b v : ℕ) (ws : List ℤ) → Holds (Some (ran seed b (begins v ws)).model) v

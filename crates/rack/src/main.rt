@@ -4,7 +4,6 @@
 ghost use Rattle.std.specs.Prelude.{◌≡◌, ◌≤◌, length, IfOk};
 ghost use Rattle.rack.specs.Answers.{answer_to};
 
-mod full;
 mod pick;
 
 use crate::pick::answer;
@@ -56,12 +55,7 @@ fn main(rt: HostRuntime) -> io::Result<()> {
     let heap = rt.alloc();
     let mut text = vec![in heap; 0u8; MOST_BYTES + 1]?;
     let mut words = vec![in heap; 0i32; pick::WORDS]?;
-    let mut trail = vec![in heap; Move {
-        mode: 0,
-        variable: 0,
-        score: 0,
-        cost: 0
-    }; pick::BUDGET]?;
+    let mut trail = vec![in heap; Move::default(); pick::BUDGET]?;
     let mut values = vec![in heap; 0u8; MOST_VARIABLES]?;
     let mut out = vec![in heap; 0u8; SHEET]?;
     let length = read_input(&mut rt.stdin(), &mut text)?;

@@ -78,11 +78,7 @@ fn series() -> [Call; CALLS] {
 fn show(rt: &HostRuntime, number: usize, answer: Result<Answer, Refusal>) -> io::Result<()> {
     match answer {
         Ok(answer) => println!(rt; "{number}: {answer:?}"),
-        Err(refusal) => {
-            let check = refusal.check.number();
-            let place = refusal.place;
-            println!(rt; "{number}: refused {check} at {place}")
-        }
+        Err(refusal) => println!(rt; "{number}: {refusal}"),
     }
 }
 
@@ -91,12 +87,7 @@ fn main(rt: HostRuntime) -> io::Result<()> {
     let numbers = [7u32, 4_294_967_295, 2, 0, 5];
     let policies = [AnyPolicy::Cca(Cca), AnyPolicy::Descent(Descent)];
     let mut sources = [Recorded::new(&numbers)];
-    let mut trail = [Move {
-        mode: 0,
-        variable: 0,
-        score: 0,
-        cost: 0,
-    }; 4];
+    let mut trail = [Move::default(); 4];
     let mut answers = vec![in rt.alloc(); Ok(Answer::Done); CALLS]?;
     let engine = replay(
         &series(),
