@@ -114,9 +114,6 @@ pub record HeadParts (bs : List ℕ) (h : Head) : Type 0 where
   pub clauses_ok : limited 1024 clauses_word ≡ Ok h.clauses
   pub end_is : line_end bs (head_from false 0 bs) ≡ h.end
 
-pair_eta : {A B : Type 0} (p : A × B) → p ≡ (p.0, p.1)
-pair_eta p = refl
-
 head_some : (bs : List ℕ) (h : Head) (o : Option (Said × Said)) → length bs ≤ 65535 → problem_of (head_from false 0 bs) (line_tokens bs (head_from false 0 bs)) ≡ o → head_of (head_from false 0 bs) (line_end bs (head_from false 0 bs)) o ≡ Ok h → HeadParts bs h
 head_some bs h None l q e = absurd (ok≢err h (head.Head (refused ProblemLine (head_from false 0 bs))) e)
 head_some bs h (Some p) l q e =

@@ -60,12 +60,6 @@ module _ (bs : List ℕ) (p : ℕ) (h : p < length bs) (c : get_or bs p 0 ≡ 99
   comment_more l e =
       sym (ends_comment ∙ at_drop_more (head_from true (line_end bs p)) bs (line_end bs p) 0 l ∙ ap (λ x. head_from x (line_end bs p + 1) (drop (line_end bs p + 1) bs)) (in_line_no (get_or bs (line_end bs p) 0) e))
 
-pub head_here : (bs : List ℕ) (p : ℕ) → p < length bs → (get_or bs p 0 ≡ 99 → ⊥) → p ≡ head_from false p (drop p bs)
-head_here bs p h ne = sym (at_drop_more (head_from false p) bs p 0 h ∙ cond-false _ _ _ (ne_eqb (get_or bs p 0) 99 ne))
-
-pub head_last : (bs : List ℕ) (p : ℕ) → length bs ≤ p → p ≡ head_from false p (drop p bs)
-head_last bs p h = sym (at_drop_all (head_from false p) bs p h)
-
 regroup : (x y z : Bool) → (x && (y && z)) ≡ ((x && y) && (z && true))
 regroup true true true = refl
 regroup true true false = refl

@@ -1,6 +1,5 @@
 mod Heads
 mod Bodies
-pub mod Fills
 mod Accepted
 pub mod Worded
 mod Comments

@@ -17,10 +17,6 @@ use Rattle.dimacs.specs.declared.head.Head.{Head}
 use Rattle.dimacs.specs.declared.read.Problem.{Problem}
 use Rattle.dimacs.specs.Heads.{head_read}
 
-abbrev pub number_in : Result (Option ℤ) WordFault → Option ℤ
-number_in (Ok o) = o
-number_in (Err f) = None
-
 -- a word's fault beside the number of its clause
 abbrev pub in_clause : {A : Type 0} → Result A WordFault → ℕ → Result A ClauseFault
 in_clause (Ok x) n = Ok x

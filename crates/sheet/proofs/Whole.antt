@@ -121,9 +121,6 @@ module _ (steps dives v : ℕ) (ws : List ℤ) (a out : List ℕ) where
   printed_fits : (r : Option ℕ) → judged v ws a ≡ Ok r → length (text_of r) ≤ length out → printed steps dives v ws a out ≡ (Ok (length (text_of r)), laid out 0 (text_of r))
   printed_fits r e h = ap (printed_by steps dives a out) e ∙ ap fitted (put_fits out 0 (text_of r) (omega arith) ∙ ap (λ n. (Some n, laid out 0 (text_of r))) (zero-add (length (text_of r))))
 
-  pub begin_accepts : (r : Option ℕ) → judged v ws a ≡ Ok r → length (text_of r) ≤ length out → (b : Result Sheet Refusal) (first : List ℕ) (f : Refusal) → (b, first) ≡ begun steps dives v ws a out → b ≡ Err f → ⊥
-  begin_accepts r e h b first f eb ef = err≢ok f _ (sym ef ∙ ap (λ (x : Begun). x.0) (eb ∙ begun_fits r e (head_room r h)))
-
   pub series_prints : (r : Option ℕ) → judged v ws a ≡ Ok r → length (text_of r) ≤ length out → (b : Result Sheet Refusal) (s : Sheet) (first : List ℕ) → (b, first) ≡ begun steps dives v ws a out → b ≡ Ok s → finished (added_all s (due_of (is_none r) a) first) ≡ printed steps dives v ws a out
   series_prints r e h b s first eb es =
       let acc = accepted v ws a r e in

@@ -31,6 +31,7 @@ fn values_width(assignment: &[u8]) -> usize
     width
 }
 
+// Stays (no plainer): the flag decides the verdict's line too, so the values in an Option would tell it twice.
 // How many bytes the line of the values takes, if there is one.
 fn line_width(satisfied: bool, assignment: &[u8]) -> usize
     requires { length assignment.now ≤ 256 }

@@ -1,8 +1,7 @@
 // A sheet that tells the outcome of a run, written into lent bytes call after call.
 ghost use Rattle.std.specs.Prelude.{◌≡◌, true};
-ghost use Rattle.lay.specs.Laid.{put};
 ghost use Rattle.lay.specs.Lines.{line_of};
-ghost use Rattle.sheet.specs.Sheets.{begun_with, begun, added, added_all, closed, ended};
+ghost use Rattle.sheet.specs.Sheets.{begun, added, added_all, closed, ended};
 ghost use Rattle.sheet.specs.Texts.{verdict, head_text, lead_of};
 
 use cnf::refusal::{Check, Refusal};
@@ -11,6 +10,7 @@ use lay::put::{Line, put_bytes, put_number};
 
 // The bytes since it began, the values that it takes in all (none where the outcome is unknown), those that were added, and
 // whether it is closed or torn.
+// Stays (rule): a sheet is plain numbers, and `spent` is what its drop requires.
 pub struct Sheet {
     written: usize,
     values: usize,
@@ -63,8 +63,8 @@ pub(crate) fn head_line(effort: Effort, satisfied: bool) -> Line<'static>
     }
 }
 
-// What stands before the number of the variable that gets a value.
 // Stays (rule): values are lent as bytes, 0 or 1.
+// What stands before the number of the variable that gets a value.
 fn lead(first: bool, value: u8) -> &'static [u8]
     ensures { result.now ≡ lead_of first value }
 {
@@ -77,26 +77,7 @@ fn lead(first: bool, value: u8) -> &'static [u8]
 }
 
 impl Sheet {
-    // Writes the head of a sheet with this verdict, which takes so many values.
-    fn start(
-        effort: Effort,
-        satisfied: bool,
-        values: usize,
-        out: &mut [u8],
-    ) -> Result<Sheet, Refusal>
-        ensures { (result, out.new) ≡ begun_with values (put out.old 0 (head_text effort.steps effort.dives satisfied)) }
-    {
-        match head_line(effort, satisfied).put(out, 0) {
-            Some(written) => Ok(Sheet {
-                written,
-                values,
-                added: 0,
-                spent: false,
-            }),
-            None => Err(Check::BytesRoom.at(0)),
-        }
-    }
-
+    // Stays (rule): a table is handed over as the number of its variables and a lent slice of words.
     // Begins a sheet: the steps and the dives, and whether the assignment satisfies every clause of the table.
     pub fn begin(
         effort: Effort,
@@ -107,10 +88,16 @@ impl Sheet {
     ) -> Result<Sheet, Refusal>
         ensures { (result, out.new) ≡ begun effort.steps effort.dives variables words.now assignment.now out.old }
     {
-        match table::check(variables, words, assignment)? {
-            None => Sheet::start(effort, true, variables, out),
-            Some(_) => Sheet::start(effort, false, 0, out),
-        }
+        let satisfied = table::check(variables, words, assignment)?.is_none();
+        let written = head_line(effort, satisfied)
+            .put(out, 0)
+            .ok_or(Check::BytesRoom.at(0))?;
+        Ok(Sheet {
+            written,
+            values: if satisfied { variables } else { 0 },
+            added: 0,
+            spent: false,
+        })
     }
 
     // Adds the value of the next variable, 0 or 1.

@@ -1,7 +1,7 @@
 -- How the parts of a number step.
 use Rattle.std.specs.List.{list_all}
 use Rattle.std.proofs.Common.{refl, ◌≡◌, ℕ, ◌+◌, ◌-◌, ◌*◌, ◌<◌, ◌≤◌, min, ◌&&◌, List, [], ◌∷◌, length, get_or, drop, sym, ap, ◌∙◌, ⊎_elim, arith}
-use Rattle.std.proofs.lemmas.List.{at_drop_more, at_drop_all}
+use Rattle.std.proofs.lemmas.List.{at_drop_more}
 use Rattle.std.proofs.lemmas.Bool.{cases_lt}
 use Rattle.words.specs.Numbers.{within, digits, decimal_after}
 
@@ -24,6 +24,3 @@ module _ (bs : List ℕ) (i : ℕ) (h : i < length bs) where
 pub digits_all : (bs : List ℕ) → digits bs ≡ list_all (within 48 57) bs
 digits_all [] = refl
 digits_all (b ∷ bs) = ap (λ t. within 48 57 b && t) (digits_all bs)
-
-pub decimal_all : (bs : List ℕ) (i n : ℕ) → length bs ≤ i → n ≤ 100000 → n ≡ min (decimal_after n (drop i bs)) 100000
-decimal_all bs i n h l = let e = at_drop_all (decimal_after n) bs i h in omega arith

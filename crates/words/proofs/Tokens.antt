@@ -4,7 +4,7 @@ use Rattle.std.proofs.lemmas.List.{drop-drop, length-drop}
 use Rattle.std.proofs.lemmas.List.Sums.{prefix_len-le-length}
 use Rattle.std.proofs.lemmas.Bool.{cond-true, cond-false, not-true, not_from_false}
 use Rattle.words.specs.Numbers.{is_number}
-use Rattle.words.specs.Words.{white, dark, Token, token, lengthen, opens_word, tokens, skipped, letters, word_of, after, word, end, sorted, said_of, word_from, said_before}
+use Rattle.words.specs.Words.{white, Token, token, lengthen, opens_word, tokens, skipped, letters, word_of, after, word, end, sorted, said_of, word_from, said_before}
 
 skip_by : (t : Bool) (p b : ℕ) (l : List ℕ) → white b ≡ t → tokens (p + 1) l ≡ tokens (p + 1 + skipped l) (drop (skipped l) l) → tokens p (b ∷ l) ≡ tokens (p + cond t (1 + skipped l) 0) (drop (cond t (1 + skipped l) 0) (b ∷ l))
 skip_by true p b l e ih =
@@ -80,14 +80,6 @@ pub tokens-next : (bs : List ℕ) (p : ℕ) → tokens p (drop p bs) ≡ said_be
 tokens-next bs p =
     tokens-first p (drop p bs)
     ∙ ap (λ k. said_before (word_from bs p) (tokens (p + after (drop p bs)) k)) (drop-drop (after (drop p bs)) p bs)
-
-pub after-within : (bs : List ℕ) (p : ℕ) → p ≤ length bs → p + after (drop p bs) ≤ length bs
-after-within bs p h =
-    let a = prefix_len-le-length white (drop p bs) in
-    let b = prefix_len-le-length dark (drop (skipped (drop p bs)) (drop p bs)) in
-    let c = length-drop (skipped (drop p bs)) (drop p bs) in
-    let d = length-drop p bs in
-    omega arith
 
 -- what a reader says of a word is what the word is
 pub said_is_word : (ws : List ℕ) (n : ℕ) (b : Bool) (t : Token) → sorted ws n ≡ word b t → b ≡ is_number t.bytes
