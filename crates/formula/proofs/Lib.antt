@@ -1,4 +1,5 @@
 pub mod Sums
+pub mod Signs
 pub mod Counts
 pub mod Normal
 pub mod Adding
