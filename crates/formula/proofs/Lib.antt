@@ -7,3 +7,4 @@ pub mod Split
 pub mod Words
 pub mod Lists
 pub mod Facts
+pub mod Passing

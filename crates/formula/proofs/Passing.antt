@@ -1,5 +1,5 @@
 -- The numbers that pass a test, counted one by one.
-use Rattle.std.proofs.Common.{◌≡◌, ℕ, zero, suc, ◌+◌, ◌-◌, ◌<◌, ◌≤◌, Bool, true, false, cond, [], ◌∷◌, ◌++◌, length, get_or, sym, refl, ap, ◌∙◌, ap₂, ⊎_elim, append-nil, add-one, arith}
+use Rattle.std.proofs.Common.{◌≡◌, ℕ, zero, suc, ◌+◌, ◌-◌, ◌<◌, ◌≤◌, Bool, true, false, cond, [], ◌∷◌, ◌++◌, length, get_or, sym, refl, ap, ◌∙◌, ap₂, ⊎_elim, add-one, arith}
 use Rattle.std.proofs.lemmas.Bool.{cases_eq}
 use Rattle.std.proofs.lemmas.List.{get_or_append_left, get_or-append_right}
 use Rattle.formula.specs.Entries.{bit}
@@ -48,16 +48,3 @@ passing_still p i (suc n) l h =
     let e : suc n ≡ n + 1 = omega arith in
     ap (λ k. length (passing p k)) e ∙ (passing_no p n (h n (omega arith) (omega arith)) ∙ passing_still p i n (omega arith) (λ j a b. h j a (omega arith))))
     (cases_eq i (suc n))
-
-pub passing_same : (p q : ℕ → Bool) (n : ℕ) → ((k : ℕ) → k < n → p k ≡ q k) → passing p n ≡ passing q n
-passing_same p q zero h = refl
-passing_same p q (suc n) h = ap₂ (λ xs b. xs ++ cond b (n ∷ []) []) (passing_same p q n (λ k l. h k (omega arith))) (h n (omega arith))
-
--- none passes from n on
-pub passing_cut : (p : ℕ → Bool) (n m : ℕ) → n ≤ m → ((k : ℕ) → n ≤ k → p k ≡ false) → passing p m ≡ passing p n
-passing_cut p n zero l h = let e : 0 ≡ n = omega arith in ap (passing p) e
-passing_cut p n (suc m) l h =
-    ⊎_elim
-    (λ (q : n ≡ suc m). ap (passing p) (sym q))
-    (λ (q : n ≡ suc m → ⊥). ap (λ b. passing p m ++ cond b (m ∷ []) []) (h m (omega arith)) ∙ (append-nil (passing p m) ∙ passing_cut p n m (omega arith) h))
-    (cases_eq n (suc m))
