@@ -3,6 +3,7 @@ use Rattle.std.proofs.Common.{◌≡◌, ℕ, zero, suc, ◌+◌, ◌*◌, ◌/�
 use Rattle.std.proofs.lemmas.Bool.{eq-eqb, ne_eqb, cond-true, cond-false, lt-ltb, le-ltb}
 use Rattle.std.proofs.lemmas.Bool.Decides.{nat_tests}
 use Rattle.formula.specs.declared.formula.Formula.{Formula}
+use Rattle.formula.specs.Formulas.{clause_count}
 use Rattle.formula.specs.Clauses.{sum_to}
 use Rattle.formula.proofs.Sums.{at_all, sum_to_same, sum_to_le, sum_to_add, sum_to_const}
 use Rattle.table.specs.declared.table.Table.{Table}
@@ -31,9 +32,9 @@ next_mix V W U i w e h =
     later : (k : ℕ) → (k ≡ i → ⊥) → ltb k i ≡ ltb k (i + 1)
     later k ne = grind (arith, nat_tests)
 
-pub weighing_light : (f : Formula) (V : ℕ → ℕ) (i w : ℕ) (t u : Table) → w ≡ V i → Weighing f V i t u → sum_to f.clauses (weight_at t) + sum_to f.clauses V < 2 ^ 40 → sum_to f.clauses (reweighted (weight_at u) i w) < 2 ^ 40
+pub weighing_light : (f : Formula) (V : ℕ → ℕ) (i w : ℕ) (t u : Table) → w ≡ V i → Weighing f V i t u → sum_to (clause_count f) (weight_at t) + sum_to (clause_count f) V < 2 ^ 40 → sum_to (clause_count f) (reweighted (weight_at u) i w) < 2 ^ 40
 weighing_light f V i w t u e h l =
-    omega (arith, sum_to_same f.clauses (reweighted (weight_at u) i w) (λ k. cond (ltb k (i + 1)) (V k) (weight_at t k)) (λ k _. next_mix V (weight_at t) (weight_at u) i w e h.weights k), mix_le f.clauses (i + 1) (weight_at t) V)
+    omega (arith, sum_to_same (clause_count f) (reweighted (weight_at u) i w) (λ k. cond (ltb k (i + 1)) (V k) (weight_at t k)) (λ k _. next_mix V (weight_at t) (weight_at u) i w e h.weights k), mix_le (clause_count f) (i + 1) (weight_at t) V)
 
 pub weighing_more : (f : Formula) (V : ℕ → ℕ) (i w : ℕ) (t u v : Table) → w ≡ V i → Weighing f V i t u → Reweighed f i w u v → Weighing f V (i + 1) t v
 weighing_more f V i w t u v e h r =
