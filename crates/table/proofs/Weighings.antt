@@ -1,13 +1,14 @@
 -- New weights for clause after clause.
-use Rattle.std.proofs.Common.{◌≡◌, ℕ, zero, suc, ◌+◌, ◌*◌, ◌/◌, ◌^◌, ◌<◌, ◌≤◌, Bool, true, false, cond, eqb, ltb, sym, refl, ap, ◌∙◌, mul_assoc, suc-mul, mul_comm, div-mul-le_self, arith}
+use Rattle.std.proofs.Common.{◌≡◌, ℕ, zero, suc, ◌+◌, ◌*◌, ◌/◌, ◌^◌, ◌<◌, ◌≤◌, Bool, true, false, cond, eqb, ltb, sym, refl, ap, ◌∙◌, ap₂, mul_assoc, suc-mul, mul_comm, div-mul-le_self, arith}
 use Rattle.std.proofs.lemmas.Bool.{eq-eqb, ne_eqb, cond-true, cond-false, lt-ltb, le-ltb}
 use Rattle.std.proofs.lemmas.Bool.Decides.{nat_tests}
 use Rattle.formula.specs.declared.formula.Formula.{Formula}
 use Rattle.formula.specs.Formulas.{clause_count}
 use Rattle.formula.specs.Clauses.{sum_to}
 use Rattle.formula.proofs.Sums.{at_all, sum_to_same, sum_to_le, sum_to_add, sum_to_const}
+use Rattle.table.specs.declared.table.ClauseRow.{ClauseRow}
 use Rattle.table.specs.declared.table.Table.{Table}
-use Rattle.table.specs.Rows.{weight_at, count_at, gained, eased_at, reweighted}
+use Rattle.table.specs.Rows.{clause_at, weight_at, count_at, gained, eased_at, reweighted}
 use Rattle.table.specs.Sound.{Sound, Reweighed, Weighing}
 
 -- a mix of two weightings weighs less than both together
@@ -50,6 +51,11 @@ weighing_more f V i w t u v e h r =
 -- what a turn reads of clause i is what it was
 pub weighing_now : (f : Formula) (V : ℕ → ℕ) (i : ℕ) (t u : Table) → Weighing f V i t u → weight_at u i ≡ weight_at t i
 weighing_now f V i t u h = h.weights i ∙ cond-false _ _ _ (le-ltb i i (omega arith))
+
+pub row_now : (f : Formula) (V : ℕ → ℕ) (i : ℕ) (t u : Table) → Weighing f V i t u → clause_at u i ≡ clause_at t i
+row_now f V i t u h =
+    let row : ℕ → ℕ → ClauseRow = λ w n. record { weight = w; count = n } in
+    ap₂ row (weighing_now f V i t u h) (h.counts i)
 
 pub gained_light : (n : ℕ) (t : Table) → sum_to n (gained t) ≤ sum_to n (weight_at t) + n
 gained_light n t = omega (arith, sum_to_le n (gained t) (λ k. weight_at t k + 1) (λ k _. go (eqb (count_at t k) 0) (weight_at t k)), sum_to_add n (weight_at t) (λ _. 1), sum_to_const n 1)

@@ -47,6 +47,9 @@ stamp_at t y = (row_at t y).stamp
 abbrev pub changed_at : Table → ℕ → Bool
 changed_at t y = (row_at t y).changed
 
+abbrev pub clause_at : Table → ℕ → ClauseRow
+clause_at t i = get_or t.clauses i clause0
+
 abbrev pub weight_at : Table → ℕ → ℕ
 weight_at t i = (get_or t.clauses i clause0).weight
 

@@ -5,9 +5,10 @@ use Rattle.formula.specs.declared.formula.Formula.{Formula}
 use Rattle.formula.specs.Clauses.{sum_to, any_to, flip_at}
 use Rattle.formula.specs.Entries.{count, named_in}
 use Rattle.formula.specs.Formulas.{clause_count, entries_of}
+use Rattle.table.specs.declared.table.ClauseRow.{ClauseRow}
 use Rattle.table.specs.declared.table.Table.{Table}
 use Rattle.table.specs.Weights.{heavy, share_of, eased}
-use Rattle.table.specs.Rows.{Rules, loss, cost_in, score_in, near_in, changed_in, turn, row_at, value_at, score_at, stamp_at, changed_at, weight_at, count_at, rules_of, reweighted, gained}
+use Rattle.table.specs.Rows.{Rules, loss, cost_in, score_in, near_in, changed_in, turn, row_at, value_at, score_at, stamp_at, changed_at, clause_at, weight_at, count_at, rules_of, reweighted, gained}
 
 -- every score, mark, true count, the cost and the weights' sum equal their definitions
 pub record Sound (f : Formula) (t : Table) : Type 0 where
@@ -88,6 +89,10 @@ pub record Reweighed (f : Formula) (i w : ℕ) (t u : Table) : Type 0 where
   pub weights : (k : ℕ) → weight_at u k ≡ reweighted (weight_at t) i w k
   pub counts : (k : ℕ) → count_at u k ≡ count_at t k
   pub ticks : u.tick ≡ t.tick
+
+-- the rule that gives such weights makes V of the clauses' rows
+abbrev pub Makes : (ClauseRow → ℕ → Type 0) → Formula → Table → (ℕ → ℕ) → Type 0
+Makes gives f t V = (k w : ℕ) → k < clause_count f → gives (clause_at t k) w → w ≡ V k
 
 -- the first i clauses have the weights V, and nothing else has changed but scores, cost and the weights' sum
 pub record Weighing (f : Formula) (V : ℕ → ℕ) (i : ℕ) (t u : Table) : Type 0 where

@@ -57,9 +57,7 @@ impl Table {
         requires light { sum_to (clause_count f.now) (weight_at self.old) < 2 ^ 39 }
         ensures { Weighing f.now (λ _. 1) (clause_count f.now) self.old self.new }
     {
-        for i in 0..f.clauses() {
-            self.reweigh(f, i, 1);
-        }
+        self.reweigh_all(f, |_| 1);
     }
 
     // Begins a search at the given assignment.

@@ -1,10 +1,10 @@
 // Weights: what an unsatisfied clause gains, and smoothing.
-ghost use Rattle.std.specs.Prelude.{◌≡◌, ◌+◌, ◌*◌, ◌/◌, ◌^◌, ◌<◌, ◌≤◌};
+ghost use Rattle.std.specs.Prelude.{◌≡◌, ℕ, ◌+◌, ◌*◌, ◌/◌, ◌^◌, ◌<◌, ◌≤◌};
 ghost use Rattle.formula.specs.Clauses.{sum_to};
 ghost use Rattle.formula.specs.Formulas.{clause_count};
 ghost use Rattle.table.specs.Weights.{heavy, share_of, eased};
-ghost use Rattle.table.specs.Rows.{weight_at, reweighted, gained, eased_at};
-ghost use Rattle.table.specs.Sound.{Sound, Reweighed, Weighing, Weighed};
+ghost use Rattle.table.specs.Rows.{clause_at, weight_at, reweighted, gained, eased_at};
+ghost use Rattle.table.specs.Sound.{Sound, Makes, Reweighed, Weighing, Weighed};
 
 use crate::revise::Change;
 use crate::table::{ClauseRow, Table};
@@ -36,32 +36,33 @@ impl ClauseRow {
 
 impl Table {
     // Gives the clause `i` another weight, and brings the scores, the cost and the weights' sum up to date.
-    pub(crate) fn reweigh(&mut self, f: &Formula, i: usize, weight: u32)
+    fn reweigh(&mut self, f: &Formula, i: usize, weight: u32)
         requires i_bound { i < clause_count f.now }
         requires sound { Sound f.now self.old }
         requires light { sum_to (clause_count f.now) (reweighted (weight_at self.old) i weight) < 2 ^ 40 }
         ensures { Reweighed f.now i weight self.old self.new }
     {
         let before = self.clauses[i];
-        let after = ClauseRow {
-            weight,
-            count: before.count,
-        };
-        self.revise_entries(f.entries_of(i), None, Change { before, after }, false);
-        self.settle(i, after);
+        if weight != before.weight {
+            let after = ClauseRow {
+                weight,
+                count: before.count,
+            };
+            self.revise_entries(f.entries_of(i), None, Change { before, after }, false);
+            self.settle(i, after);
+        }
     }
 
-    // The clause `i` gains weight 1, if it is unsatisfied.
-    fn gain_weight(&mut self, f: &Formula, i: usize)
-        requires i_bound { i < clause_count f.now }
+    // Gives each clause the weight that the rule makes of its row.
+    pub(crate) fn reweigh_all<R: Fn(ClauseRow) -> u32>(&mut self, f: &Formula, rule: R)
         requires sound { Sound f.now self.old }
-        requires weight { weight_at self.old i < 2 ^ 31 }
-        requires light { sum_to (clause_count f.now) (reweighted (weight_at self.old) i (gained self.old i)) < 2 ^ 40 }
-        ensures { Reweighed f.now i (gained self.old i) self.old self.new }
+        requires callable { (k : ℕ) → k < clause_count f.now → R.pre rule (clause_at self.old k) }
+        requires light { (V : ℕ → ℕ) × Makes (R.post rule) f.now self.old V × (sum_to (clause_count f.now) (weight_at self.old) + sum_to (clause_count f.now) V < 2 ^ 40) }
+        ensures { (V : ℕ → ℕ) → Makes (R.post rule) f.now self.old V → Weighing f.now V (clause_count f.now) self.old self.new }
     {
-        let row = self.clauses[i];
-        if row.count == 0 {
-            self.reweigh(f, i, row.weight + 1);
+        for i in 0..f.clauses() {
+            let weight = rule(self.clauses[i]);
+            self.reweigh(f, i, weight);
         }
     }
 
@@ -71,9 +72,7 @@ impl Table {
         requires light { sum_to (clause_count f.now) (weight_at self.old) < 2 ^ 31 }
         ensures { Weighing f.now (gained self.old) (clause_count f.now) self.old self.new }
     {
-        for i in 0..f.clauses() {
-            self.gain_weight(f, i);
-        }
+        self.reweigh_all(f, |row| row.weight + (row.count == 0) as u32);
     }
 
     // Smooths every weight.
@@ -83,10 +82,7 @@ impl Table {
         requires shares { (clause_count f.now * share < 2 ^ 31) × (share < 2 ^ 31) }
         ensures { Weighing f.now (eased_at self.old share) (clause_count f.now) self.old self.new }
     {
-        for i in 0..f.clauses() {
-            let weight = self.clauses[i].smoothed(share);
-            self.reweigh(f, i, weight);
-        }
+        self.reweigh_all(f, |row| row.smoothed(share));
     }
 
     // Whether the weights are more than 300 on average.

@@ -42,8 +42,8 @@ settle-requires-clause-total c =
       omega (arith, h.same_total, total_small f t c.args.i c.args.weight c.requires.i_bound c.requires.sound c.requires.light),
     )
 
-pub returns : goal.returns
-returns c =
+pub returns-then-weight-before : goal.returns-then-weight-before
+returns-then-weight-before c =
     let f = c.args.f.now in
     let t = c.args.self.now in
     let i = c.args.i in
