@@ -4,7 +4,7 @@ use native.Mathlib.Nat.{zero-div}
 use lib.Bits.{bit_xor, xor_shr, xor_mod, xor_zero_r, shifted_half, shifted_even}
 use lib.Count.{count_trailing_zeros, under}
 use lib.Pow.{shl-shr}
-use Rattle.bitset.specs.Sets.{bit_at}
+use Rattle.bitset.specs.Bits.{bit_at}
 
 bit_shifted : (n s j : ℕ) → bit_at (n / 2 ^ s) j ≡ bit_at n (s + j)
 bit_shifted n s j = ap (λ m. eqb (m % 2) 1) (shr-shr n s j)

@@ -1,3 +1,2 @@
 mod Bits
-pub mod Passing
 mod Members

@@ -1,4 +1,5 @@
 // Sets of numbers below 1,024.
 #![tactic(auto)]
 
+mod lowest;
 pub mod set;

@@ -1,4 +1,5 @@
 pub mod Sums
+pub mod Signs
 pub mod Counts
 pub mod Normal
 pub mod Adding
@@ -6,3 +7,4 @@ pub mod Split
 pub mod Words
 pub mod Lists
 pub mod Facts
+pub mod Passing

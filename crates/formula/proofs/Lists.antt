@@ -1,17 +1,18 @@
 -- The lists of the clauses that name each variable.
-use Rattle.std.proofs.Common.{◌≡◌, ℕ, zero, suc, ◌+◌, ◌-◌, ◌<◌, ◌≤◌, Bool, true, false, cond, ◌||◌, eqb, List, [], ◌∷◌, ◌++◌, length, get_or, take, drop, set, sym, refl, ap, ◌∙◌, subst, ap₂, ⊎_elim, mul-zero, add-one, arith}
+use Rattle.std.proofs.Common.{◌≡◌, ℕ, zero, suc, ◌+◌, ◌<◌, ◌≤◌, Bool, true, false, cond, ◌||◌, eqb, List, [], ◌∷◌, ◌++◌, length, set, replicate, sym, refl, ap, ◌∙◌, subst, ap₂, ⊎_elim, mul-zero, add-one, arith}
 use Rattle.std.proofs.lemmas.Bool.{cases_eq, ne_eqb}
-use Rattle.std.proofs.lemmas.List.{take_more_set, take_all, take-take, take_at, drop_at, length-append, length-set, length-take-le, get_or-set_same, get_or-set_other, append_assoc, append-nil}
+use Rattle.std.proofs.lemmas.List.{length-append, length-set, length-replicate, get_or-set_same, get_or-set_other, get_or-replicate, append_assoc, append-nil}
 use Rattle.formula.specs.declared.entry.Entry.{Entry}
-use Rattle.formula.specs.declared.formula.Span.{Span}
 use Rattle.formula.specs.declared.formula.Formula.{Formula}
 use Rattle.formula.specs.declared.occurrences.Occurrences.{Occurrences}
+use Rattle.formula.specs.declared.span.Span.{Span}
 use Rattle.formula.specs.Clauses.{sum_to}
 use Rattle.formula.specs.Entries.{bit, named_in}
-use Rattle.formula.specs.Formulas.{Made, span0, part_of, entries_of}
-use Rattle.formula.specs.Occurrences.{Rows, OccursTo, passing, names_at, places_of, occurring_in, listed_in}
+use Rattle.formula.specs.Spans.{span0, part_of, span_in, Inside}
+use Rattle.formula.specs.Formulas.{clause_count, entries_of}
+use Rattle.formula.specs.Occurrences.{OccursTo, passing, names_at, listed, occurring_in}
 use Rattle.formula.proofs.Sums.{at_all, bit_le, sum_to_same, sum_to_le, sum_to_one, sum_to_add, sum_to_const, sum_to_swap}
-use Rattle.formula.proofs.Adding.{part_of_lem}
+use Rattle.formula.proofs.Adding.{part_front, part_back}
 
 pub length-passing : (p : ℕ → Bool) (n : ℕ) → length (passing p n) ≡ sum_to n (λ i. bit (p i))
 length-passing p zero = refl
@@ -46,91 +47,70 @@ named_bits n (e ∷ es) =
     omega (arith, sum_to_le n (λ x. bit (eqb e.variable x || named_in es x)) (λ x. bit (eqb e.variable x) + bit (named_in es x)) (λ x _. bit_or (eqb e.variable x) (named_in es x)), sum_to_add n (λ x. bit (eqb e.variable x)) (λ x. bit (named_in es x)), one_hit n e.variable, named_bits n es)
 
 -- the lists of all variables have room
-pub lists_room : (f : Formula) (v : ℕ) → Made f → v ≤ f.variables → sum_to v (λ x. length (passing (names_at f x) f.clauses)) ≤ 4096
-lists_room f v made l =
-    let n = f.clauses in
+pub lists_room : (f : Formula) (v : ℕ) → v ≤ f.variables → sum_to v (λ x. length (passing (names_at f x) (clause_count f))) ≤ 4096
+lists_room f v l =
+    let n = clause_count f in
     let V = f.variables in
     let a = sum_to_same V (λ x. length (passing (names_at f x) n)) (λ x. sum_to n (λ i. bit (names_at f x i))) (λ x _. length-passing (names_at f x) n) in
     let b = sum_to_swap V n (λ x i. bit (names_at f x i)) in
     let c = sum_to_le n (λ i. sum_to V (λ x. bit (names_at f x i))) (λ i. length (entries_of f i)) (λ i _. named_bits V (entries_of f i)) in
-    omega (arith, sum_to_grows v V (λ x. length (passing (names_at f x) n)) l, made.all_entries, made.few_entries)
+    omega (arith, sum_to_grows v V (λ x. length (passing (names_at f x) n)) l, f.made.all_entries, f.made.few_entries)
+
+-- no variable has a list yet
+pub inside_none : (m n : ℕ) → Inside (replicate m span0) n
+inside_none m n i l =
+    subst (λ (s : Span). (s.start ≤ s.end) × (s.end ≤ n)) (sym (get_or-replicate m i span0 span0 (omega (arith, length-replicate {A = Span} m span0)))) (omega arith, omega arith)
+
+-- spans that mark parts of a list mark parts of a longer one too
+pub inside_longer : (ss : List Span) (m n : ℕ) → m ≤ n → Inside ss m → Inside ss n
+inside_longer ss m n l h i k = ((h i k).0, omega (arith, (h i k).1))
+
+pub inside_set : (ss : List Span) (x n : ℕ) (s : Span) → x < length ss → s.start ≤ s.end → s.end ≤ n → Inside ss n → Inside (set ss x s) n
+inside_set ss x n s l p q h =
+    at_all (λ i. i < length (set ss x s) → ((span_in (set ss x s) i).start ≤ (span_in (set ss x s) i).end) × ((span_in (set ss x s) i).end ≤ n)) x
+    (λ _. subst (λ (t : Span). (t.start ≤ t.end) × (t.end ≤ n)) (sym (get_or-set_same ss x s span0 l)) (p, q))
+    (λ i ne k. subst (λ (t : Span). (t.start ≤ t.end) × (t.end ≤ n)) (sym (get_or-set_other ss x i s span0 ne)) (h i (omega (arith, length-set ss x s))))
 
 -- the numbers xs are put behind those of o
 pub record Listing (xs : List ℕ) (o p : Occurrences) : Type 0 where
-  pub rows : Rows p
   pub same_spans : p.spans ≡ o.spans
-  pub used : p.used ≡ o.used + length xs
-  pub front : take p.used p.clauses ≡ take o.used o.clauses ++ xs
+  pub items : p.clauses.items ≡ o.clauses.items ++ xs
 
-pub listing_start : (o : Occurrences) → Rows o → Listing [] o o
-listing_start o r = record { rows = r; same_spans = refl; used = omega arith; front = sym (append-nil (take o.used o.clauses)) }
+pub listing_start : (o : Occurrences) → Listing [] o o
+listing_start o = record { same_spans = refl; items = sym (append-nil o.clauses.items) }
 
-listing_kept : (b : Bool) (i : ℕ) (xs : List ℕ) (o p : Occurrences) → (b ≡ true → p.used < 4096) → Listing xs o p → Listing (xs ++ cond b (i ∷ []) []) o (listed_in p i b)
-listing_kept true i xs o p room h =
-    let l : p.used < length p.clauses = omega (arith, h.rows.clauses, room refl) in
-    record {
-      rows = record { spans = h.rows.spans; clauses = length-set p.clauses p.used i ∙ h.rows.clauses };
-      same_spans = h.same_spans;
-      used = omega (arith, h.used, length-append xs (i ∷ []));
-      front = take_more_set p.clauses p.used i l ∙ (ap (λ ys. ys ++ (i ∷ [])) h.front ∙ append_assoc (take o.used o.clauses) xs (i ∷ []));
-    }
-listing_kept false i xs o p room h = subst (λ ys. Listing ys o p) (sym (append-nil xs)) h
+module _ (q : ℕ → Bool) (i n : ℕ) (o : Occurrences) (l : i < n) (few : listed o + length (passing q n) ≤ 4096) (cs : List ℕ) (h : cs ≡ o.clauses.items ++ passing q i) where
+  pub listing_room : q i ≡ true → length cs < 4096
+  listing_room e = omega (arith, ap length h, length-append o.clauses.items (passing q i), passing_room q i n l e)
 
-module _ (q : ℕ → Bool) (i n : ℕ) (o p : Occurrences) (l : i < n) (few : o.used + length (passing q n) ≤ 4096) (h : Listing (passing q i) o p) where
-  pub listing_room : q i ≡ true → p.used < 4096
-  listing_room e = omega (arith, h.used, passing_room q i n l e)
-
-  pub listing_more : Listing (passing q (i + 1)) o (listed_in p i (q i))
-  listing_more = subst (λ k. Listing (passing q k) o (listed_in p i (q i))) (sym (add-one i)) (listing_kept (q i) i (passing q i) o p listing_room h)
+  pub listing_more : (ds : List ℕ) → ds ≡ cs ++ cond (q i) (i ∷ []) [] → ds ≡ o.clauses.items ++ passing q (i + 1)
+  listing_more ds e =
+      e
+      ∙ (ap (λ xs. xs ++ cond (q i) (i ∷ []) []) h
+      ∙ (append_assoc o.clauses.items (passing q i) (cond (q i) (i ∷ []) [])
+      ∙ ap (λ k. o.clauses.items ++ passing q k) (sym (add-one i))))
 
 -- the list of one variable more
-module _ (f : Formula) (v : ℕ) (o p : Occurrences) (small : v < 256) (was : OccursTo f v o) (few : o.used + length (passing (names_at f v) f.clauses) ≤ 4096) (h : Listing (passing (names_at f v) f.clauses) o p) where
-  abbrev new : Span
-  new = record { start = o.used; end = p.used }
+module _ (f : Formula) (v : ℕ) (o : Occurrences) (small : v < 256) (was : OccursTo f v o) (cs : List ℕ) (s : Span) (h : cs ≡ o.clauses.items ++ passing (names_at f v) (clause_count f)) (from : s.start ≡ listed o) (to : s.end ≡ length cs) where
+  long : length cs ≡ listed o + length (passing (names_at f v) (clause_count f))
+  long = ap length h ∙ length-append o.clauses.items (passing (names_at f v) (clause_count f))
 
-  abbrev p' : Occurrences
-  p' = record { used = p.used; spans = set p.spans v new; clauses = p.clauses }
+  pub inside_more : Inside (set o.spans v s) (length cs)
+  inside_more = inside_set o.spans v (length cs) s (omega (arith, o.rows)) (omega (arith, long)) (omega arith) (inside_longer o.spans (listed o) (length cs) (omega (arith, long)) o.inside)
 
-  span_new : places_of p' v ≡ new
-  span_new = get_or-set_same p.spans v new span0 (omega (arith, h.rows.spans))
-
-  span_old : (x : ℕ) → x < v → places_of p' x ≡ places_of o x
-  span_old x m = get_or-set_other p.spans v x new span0 (λ e. omega arith) ∙ ap (λ ss. get_or ss x span0) h.same_spans
-
-  lf : length (take o.used o.clauses) ≡ o.used
-  lf = length-take-le o.used o.clauses (omega (arith, was.rows.clauses, was.few))
-
-  front' : take o.used p.clauses ≡ take o.used o.clauses
-  front' = sym (take-take o.used p.used p.clauses (omega (arith, h.used))) ∙ (ap (take o.used) h.front ∙ take_at (take o.used o.clauses) (passing (names_at f v) f.clauses) o.used lf)
-
-  list_new : occurring_in p' v ≡ passing (names_at f v) f.clauses
-  list_new =
-      ap (λ (s : Span). part_of s p.clauses) span_new
-      ∙ (part_of_lem p.clauses o.used p.used p.used (omega (arith, h.used)) (omega arith)
-      ∙ (ap (λ xs. take (p.used - o.used) (drop o.used xs)) h.front
-      ∙ (ap (take (p.used - o.used)) (drop_at (take o.used o.clauses) (passing (names_at f v) f.clauses) o.used lf)
-      ∙ take_all (p.used - o.used) (passing (names_at f v) f.clauses) (omega (arith, h.used)))))
-
-  list_old : (x : ℕ) → x < v → occurring_in p' x ≡ occurring_in o x
-  list_old x m =
-      let s = (places_of o x).start in
-      let e = (places_of o x).end in
-      let in' = was.inside x m in
-      ap (λ (s : Span). part_of s p.clauses) (span_old x m)
-      ∙ (part_of_lem p.clauses s e o.used in'.0 in'.1
-      ∙ (ap (λ xs. take (e - s) (drop s xs)) front' ∙ sym (part_of_lem o.clauses s e o.used in'.0 in'.1)))
-
-  pub occurs_more : OccursTo f (v + 1) p'
-  occurs_more =
+  pub occurs_more : (p : Occurrences) → p.spans ≡ set o.spans v s → p.clauses.items ≡ cs → OccursTo f (v + 1) p
+  occurs_more p es ec =
+      let at : (x : ℕ) → occurring_in p x ≡ part_of (span_in (set o.spans v s) x) (o.clauses.items ++ passing (names_at f v) (clause_count f)) = λ x. ap₂ (λ ss xs. part_of (span_in ss x) xs) es (ec ∙ h) in
       record {
-        rows = record { spans = length-set p.spans v new ∙ h.rows.spans; clauses = h.rows.clauses };
-        few = omega (arith, h.used);
-        inside = at_all (λ x. x < v + 1 → ((places_of p' x).start ≤ (places_of p' x).end) × ((places_of p' x).end ≤ p.used)) v
-            (λ _. subst (λ (s : Span). (s.start ≤ s.end) × (s.end ≤ p.used)) (sym span_new) (omega (arith, h.used), omega arith))
-            (λ x ne m. let k : x < v = omega arith in subst (λ (s : Span). (s.start ≤ s.end) × (s.end ≤ p.used)) (sym (span_old x k)) ((was.inside x k).0, omega (arith, (was.inside x k).1, h.used)));
-        lists = at_all (λ x. x < v + 1 → occurring_in p' x ≡ passing (names_at f x) f.clauses) v
-            (λ _. list_new)
-            (λ x ne m. let k : x < v = omega arith in list_old x k ∙ was.lists x k);
+        lists = at_all (λ x. x < v + 1 → occurring_in p x ≡ passing (names_at f x) (clause_count f)) v
+            (λ _. at v ∙ (ap (λ (t : Span). part_of t (o.clauses.items ++ passing (names_at f v) (clause_count f))) (get_or-set_same o.spans v s span0 (omega (arith, o.rows))) ∙ part_back s o.clauses.items (passing (names_at f v) (clause_count f)) from (to ∙ ap length h)))
+            (λ x ne m.
+            let k : x < v = omega arith in
+            let in' = o.inside x (omega (arith, o.rows)) in
+            at x
+            ∙ (ap (λ (t : Span). part_of t (o.clauses.items ++ passing (names_at f v) (clause_count f))) (get_or-set_other o.spans v x s span0 ne)
+            ∙ (part_front (span_in o.spans x) o.clauses.items (passing (names_at f v) (clause_count f)) in'.0 in'.1
+            ∙ was.lists x k)));
       }
 
 -- a list of the numbers from i on and below n that pass, rising

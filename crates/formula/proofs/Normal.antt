@@ -1,29 +1,12 @@
 -- The entries of a clause of words.
-use Rattle.std.proofs.Common.{◌≡◌, ℕ, zero, suc, ◌+◌, ◌<◌, ◌≤◌, Bool, true, false, cond, ◌||◌, eqb, List, [], ◌∷◌, ◌++◌, length, get_or, take, ℤ, pos, negsuc, sym, refl, ap, ◌∙◌, subst, ap₂, arith}
+use Rattle.std.proofs.Common.{◌≡◌, ℕ, zero, suc, ◌+◌, ◌<◌, ◌≤◌, Bool, true, false, cond, ◌||◌, eqb, List, [], ◌∷◌, ◌++◌, length, ℤ, pos, negsuc, sym, refl, ap, ◌∙◌, subst, ap₂, arith}
 use Rattle.std.proofs.lemmas.Bool.{ne_eqb, eqb-false, or_parts, or_from}
-use Rattle.std.proofs.lemmas.List.{take_more, length-append, append-nil}
+use Rattle.std.proofs.lemmas.List.{length-append, append-nil}
 use Rattle.formula.specs.declared.entry.Entry.{Entry}
 use Rattle.formula.specs.Clauses.{sum_to}
-use Rattle.formula.specs.Entries.{bit, any_of, is_plain, is_negated, entry_of, with_word, kept, entries_to, named_in, Distinct, Signed}
+use Rattle.formula.specs.Entries.{bit, any_of, is_plain, is_negated, entry_of, kept, entries_to, named_in, Distinct, Signed}
 use Rattle.formula.proofs.Sums.{bit_le, sum_to_le, sum_to_one, sum_to_add}
 use Rattle.formula.proofs.Counts.{named_append}
-
-any_push : (p : ℤ → Bool) (ls : List ℤ) (l : ℤ) → any_of p (ls ++ (l ∷ [])) ≡ (any_of p ls || p l)
-any_push p [] l = go (p l)
-  where
-    go : (b : Bool) → (b || false) ≡ b
-    go true = refl
-    go false = refl
-any_push p (k ∷ ls) l = ap (λ b. p k || b) (any_push p ls l) ∙ go (p k) (any_of p ls) (p l)
-  where
-    go : (a b c : Bool) → (a || (b || c)) ≡ ((a || b) || c)
-    go true b c = refl
-    go false b c = refl
-
-pub entry_more : (c : List ℤ) (v j : ℕ) (d : ℤ) → j < length c → with_word (entry_of (take j c) v) (get_or c j d) ≡ entry_of (take (j + 1) c) v
-entry_more c v j d l =
-    sym (ap (λ ls. entry_of ls v) (take_more c j d l)
-    ∙ ap₂ (λ p n. record { variable = v; plain = p; negated = n }) (any_push (is_plain v) (take j c) (get_or c j d)) (any_push (is_negated v) (take j c) (get_or c j d)))
 
 abbrev pub hit : ℕ → List ℤ → Bool
 hit v c = any_of (is_plain v) c || any_of (is_negated v) c

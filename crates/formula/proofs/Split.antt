@@ -1,14 +1,14 @@
 -- Splitting the words of a table into its clauses.
-use Rattle.std.proofs.Common.{◌≡◌, ℕ, zero, suc, ◌+◌, ◌-◌, ◌<◌, ◌≤◌, true, false, cond, List, [], ◌∷◌, ◌++◌, length, get_or, take, drop, ℤ, pos, negsuc, sym, refl, ap, ◌∙◌, subst, ap₂, ⊎_elim, arith}
+use Rattle.std.proofs.Common.{◌≡◌, ℕ, zero, suc, ◌+◌, ◌<◌, ◌≤◌, false, cond, List, [], ◌∷◌, ◌++◌, length, get_or, take, drop, ℤ, pos, negsuc, sym, refl, ap, ◌∙◌, subst, ap₂, ⊎_elim, arith}
 use Rattle.std.specs.List.{AllByRecursion}
 use Rattle.std.proofs.lemmas.Bool.{cases_lt, cases_order, false≢true}
-use Rattle.std.proofs.lemmas.List.{drop_more, drop_all, drop_at, drop-drop, take_at, length-drop, length-append, get_or-drop, get_or_append_left, get_or_at, append_assoc}
+use Rattle.std.proofs.lemmas.List.{drop_more, drop_all, drop_at, take_at, length-drop, length-append, get_or_append_left, get_or_at, append_assoc}
 use Rattle.std.proofs.ByRecursion.{All-get_or}
 use Rattle.cnf.specs.Tables.{is_zero, Literal, Clause, spelled, literals_in, Legal, onto, clauses_of}
 use Rattle.formula.specs.declared.formula.Formula.{Formula}
-use Rattle.formula.specs.Clauses.{sum_to}
 use Rattle.formula.specs.Entries.{entries_to}
-use Rattle.formula.specs.Formulas.{Sized, Made, Added, Holds, FirstZero, entries_of}
+use Rattle.formula.specs.Made.{Made}
+use Rattle.formula.specs.Formulas.{Added, Holds, FirstZero, clause_count, entry_count, entries_of}
 use Rattle.formula.proofs.Sums.{at_all}
 
 -- a literal is no 0
@@ -44,125 +44,123 @@ pub literals-drop : (n : ℕ) (cs : List (List ℤ)) → n < length cs → liter
 literals-drop n cs l = ap literals_in (drop_more cs n [] l)
 
 -- the first 0 after a clause's words is the one that ends it
-pub zero_is : (v : ℕ) (ws c rest : List ℤ) (k r : ℕ) → AllByRecursion (Literal v) c → k < length ws → drop k ws ≡ c ++ (pos 0 ∷ rest) → FirstZero ws k r → r ≡ k + length c
-zero_is v ws c rest k r h l e z =
-    let n : length ws - k ≡ length c + (length rest + 1) = sym (length-drop k ws) ∙ (ap length e ∙ (length-append c (pos 0 ∷ rest) ∙ omega arith)) in
-    let word : (i : ℕ) → get_or ws (k + i) (pos 0) ≡ get_or (c ++ (pos 0 ∷ rest)) i (pos 0) = λ i. sym (get_or-drop k ws i (pos 0)) ∙ ap (λ xs. get_or xs i (pos 0)) e in
+pub zero_is : (v : ℕ) (c rest : List ℤ) (r : ℕ) → AllByRecursion (Literal v) c → FirstZero (c ++ (pos 0 ∷ rest)) 0 r → r ≡ length c
+zero_is v c rest r h z =
     ⊎_elim
-    (λ (q : r ≡ k + length c). q)
+    (λ (q : r ≡ length c). q)
     (⊎_elim
-    (λ (q : r < k + length c).
-    let i = r - k in
-    let s : k + i ≡ r = omega (arith, z.from) in
-    let a : is_zero (get_or ws r (pos 0)) ≡ true = z.at (omega arith) in
-    let w : get_or ws r (pos 0) ≡ get_or c i (pos 0) = ap (λ j. get_or ws j (pos 0)) (sym s) ∙ (word i ∙ get_or_append_left c (pos 0 ∷ rest) (pos 0) i (omega (arith, z.from))) in
-    let b : is_zero (get_or c i (pos 0)) ≡ false = literal_nonzero v (get_or c i (pos 0)) (All-get_or (Literal v) c i (pos 0) (omega (arith, z.from)) h) in
+    (λ (q : r < length c).
+    let a = z.at (omega (arith, length-append c (pos 0 ∷ rest))) in
+    let w = get_or_append_left c (pos 0 ∷ rest) (pos 0) r q in
+    let b = literal_nonzero v (get_or c r (pos 0)) (All-get_or (Literal v) c r (pos 0) q h) in
     absurd (false≢true (sym b ∙ (ap is_zero (sym w) ∙ a))))
-    (λ (q : k + length c < r).
-    let w : get_or ws (k + length c) (pos 0) ≡ pos 0 = word (length c) ∙ get_or_at c (pos 0) rest (pos 0) (length c) refl in
-    let b = z.before (k + length c) (omega arith) q in
-    absurd (false≢true (sym b ∙ ap is_zero w))))
-    (cases_order r (k + length c))
+    (λ (q : length c < r).
+    let b = z.before (length c) (omega arith) q in
+    absurd (false≢true (sym b ∙ ap is_zero (get_or_at c (pos 0) rest (pos 0) (length c) refl)))))
+    (cases_order r (length c))
 
--- the words from k on are still to be read, and the formula has the clauses before
-pub record Loading (v : ℕ) (ws : List ℤ) (k : ℕ) (f : Formula) : Type 0 where
-  pub legal : Legal v ws
-  pub made : Made f
+-- the words ws are still to be read, and the formula has the clauses before
+pub record Loading (v : ℕ) (all ws : List ℤ) (f : Formula) : Type 0 where
+  pub legal : Legal v all
   pub variables : f.variables ≡ v
-  pub few : f.clauses ≤ length legal.clauses
-  pub within : k ≤ length ws
-  pub rest : drop k ws ≡ spelled (drop f.clauses legal.clauses)
-  pub entries : (i : ℕ) → i < f.clauses → entries_of f i ≡ entries_to (get_or legal.clauses i []) v
-  pub room : f.used + literals_in (drop f.clauses legal.clauses) ≤ 4096
+  pub few : clause_count f ≤ length legal.clauses
+  pub rest : ws ≡ spelled (drop (clause_count f) legal.clauses)
+  pub entries : (i : ℕ) → i < clause_count f → entries_of f i ≡ entries_to (get_or legal.clauses i []) v
+  pub room : entry_count f + literals_in (drop (clause_count f) legal.clauses) ≤ 4096
 
-pub loading_start : (v : ℕ) (ws : List ℤ) (f : Formula) → Sized f → Legal v ws → f.variables ≡ v → f.clauses ≡ 0 → f.used ≡ 0 → Loading v ws 0 f
-loading_start v ws f s legal ev ec eu =
-    let cs = legal.clauses in
-    let none : (i : ℕ) → i < f.clauses → ⊥ = λ i l. omega arith in
+-- no clause yet
+pub made_none : (v : ℕ) → v ≤ 256 → Made v [] []
+made_none v l =
     record {
-      legal = legal;
-      made = record {
-        sized = s;
-        few_variables = omega (arith, legal.variables);
-        few_clauses = omega arith;
-        few_entries = omega arith;
-        all_entries = subst (λ n. sum_to n (λ i. length (entries_of f i)) ≤ f.used) (sym ec) (omega arith);
-        inside = λ i l. absurd (none i l);
-        signed = λ i l. absurd (none i l);
-        distinct = λ i l. absurd (none i l);
-      };
-      variables = ev;
-      few = omega arith;
-      within = omega arith;
-      rest = legal.words ∙ ap (λ n. spelled (drop n cs)) (sym ec);
-      entries = λ i l. absurd (none i l);
-      room = subst (λ n. f.used + literals_in (drop n cs) ≤ 4096) (sym ec) (omega (arith, legal.literals));
+      few_variables = l;
+      few_clauses = omega arith;
+      few_entries = omega arith;
+      all_entries = omega arith;
+      inside = λ i m. absurd (omega arith);
+      signed = λ i m. absurd (omega arith);
+      distinct = λ i m. absurd (omega arith);
     }
 
-module _ (v : ℕ) (ws : List ℤ) (k : ℕ) (f : Formula) (l : k < length ws) (h : Loading v ws k f) where
+pub loading_start : (v : ℕ) (ws : List ℤ) (f : Formula) → Legal v ws → f.variables ≡ v → f.spans.items ≡ [] → f.entries.items ≡ [] → Loading v ws ws f
+loading_start v ws f legal ev es ee =
+    let none : clause_count f ≡ 0 = ap length es in
+    record {
+      legal = legal;
+      variables = ev;
+      few = omega arith;
+      rest = legal.words ∙ ap (λ n. spelled (drop n legal.clauses)) (sym none);
+      entries = λ i l. absurd (omega arith);
+      room = subst (λ n. entry_count f + literals_in (drop n legal.clauses) ≤ 4096) (sym none) (omega (arith, ap length ee, legal.literals));
+    }
+
+module _ (v : ℕ) (all ws : List ℤ) (f : Formula) (h : Loading v all ws f) where
   abbrev cs : List (List ℤ)
   cs = h.legal.clauses
 
   abbrev n : ℕ
-  n = f.clauses
+  n = clause_count f
 
-  abbrev c : List ℤ
-  c = get_or cs n []
+  -- another clause comes next
+  module _ (r : ℕ) (l : r < length ws) (z : FirstZero ws 0 r) where
+    abbrev c : List ℤ
+    c = get_or cs n []
 
-  more : n < length cs
-  more =
-      ⊎_elim (λ q. q)
-      (λ (q : length cs ≤ n). absurd (omega (arith, length-drop k ws, ap length (h.rest ∙ ap spelled (drop_all n cs q)))))
-      (cases_lt n (length cs))
+    more : n < length cs
+    more =
+        ⊎_elim (λ q. q)
+        (λ (q : length cs ≤ n). absurd (omega (arith, ap length (h.rest ∙ ap spelled (drop_all n cs q)))))
+        (cases_lt n (length cs))
 
-  next : drop k ws ≡ c ++ (pos 0 ∷ spelled (drop (n + 1) cs))
-  next = h.rest ∙ ap spelled (drop_more cs n [] more)
+    next : ws ≡ c ++ (pos 0 ∷ spelled (drop (n + 1) cs))
+    next = h.rest ∙ ap spelled (drop_more cs n [] more)
 
-  each : Clause v c
-  each = All-get_or (Clause v) cs n [] more h.legal.each
+    each : Clause v c
+    each = All-get_or (Clause v) cs n [] more h.legal.each
 
-  pub loading_free : n < 1024
-  loading_free = omega (arith, more, h.legal.number)
+    pub loading_free : n < 1024
+    loading_free = omega (arith, more, h.legal.number)
 
-  module _ (r : ℕ) (z : FirstZero ws k r) where
-    pub end_is : r ≡ k + length c
-    end_is = zero_is v ws c (spelled (drop (n + 1) cs)) k r each.1 l next z
+    end_is : r ≡ length c
+    end_is = zero_is v c (spelled (drop (n + 1) cs)) r each.1 (subst (λ xs. FirstZero xs 0 r) next z)
 
-    pub end_in : r < length ws
-    end_in = omega (arith, end_is, length-drop k ws, ap length next, length-append c (pos 0 ∷ spelled (drop (n + 1) cs)))
+    words_are : take r ws ≡ c
+    words_are = ap (take r) next ∙ take_at c (pos 0 ∷ spelled (drop (n + 1) cs)) r (sym end_is)
 
-    pub words_are : take (r - k) (drop k ws) ≡ c
-    words_are = ap (λ i. take i (drop k ws)) (omega (arith, end_is)) ∙ (ap (take (length c)) next ∙ take_at c (pos 0 ∷ spelled (drop (n + 1) cs)) (length c) refl)
-
-    pub loading_room : f.used + length (take (r - k) (drop k ws)) ≤ 4096
+    pub loading_room : entry_count f + length (take r ws) ≤ 4096
     loading_room = omega (arith, h.room, literals-drop n cs more, ap length words_are)
 
-    pub loading_more : (g : Formula) → Added (take (r - k) (drop k ws)) f g → Loading v ws (r + 1) g
+    rest_is : drop (r + 1) ws ≡ spelled (drop (n + 1) cs)
+    rest_is =
+        ap (drop (r + 1)) (next ∙ sym (append_assoc c (pos 0 ∷ []) (spelled (drop (n + 1) cs))))
+        ∙ drop_at (c ++ (pos 0 ∷ [])) (spelled (drop (n + 1) cs)) (r + 1) (length-append c (pos 0 ∷ []) ∙ omega (arith, end_is))
+
+    pub loading_more : (g : Formula) → Added (take r ws) f g → Loading v all (drop (r + 1) ws) g
     loading_more g a =
         let e = a.one_more in
         record {
           legal = h.legal;
-          made = a.made;
           variables = a.same_variables ∙ h.variables;
           few = omega (arith, more);
-          within = omega (arith, end_in);
-          rest =
-              ap (λ i. drop i ws) (omega (arith, end_is))
-              ∙ (sym (drop-drop (length c + 1) k ws)
-              ∙ (ap (drop (length c + 1)) (next ∙ sym (append_assoc c (pos 0 ∷ []) (spelled (drop (n + 1) cs))))
-              ∙ (drop_at (c ++ (pos 0 ∷ [])) (spelled (drop (n + 1) cs)) (length c + 1) (length-append c (pos 0 ∷ []))
-              ∙ ap (λ m. spelled (drop m cs)) (sym e))));
-          entries = at_all (λ i. i < g.clauses → entries_of g i ≡ entries_to (get_or cs i []) v) n
+          rest = rest_is ∙ ap (λ m. spelled (drop m cs)) (sym e);
+          entries = at_all (λ i. i < clause_count g → entries_of g i ≡ entries_to (get_or cs i []) v) n
               (λ _. a.new_entries ∙ ap₂ entries_to words_are h.variables)
               (λ i ne m. a.same_entries i (omega arith) ∙ h.entries i (omega arith));
           room = omega (arith, h.room, a.room, literals-drop n cs more, ap length words_are, ap (λ m. literals_in (drop m cs)) e);
         }
 
-pub loading_end : (v : ℕ) (ws : List ℤ) (k : ℕ) (f : Formula) → length ws ≤ k → Loading v ws k f → Holds v (clauses_of ws) f
-loading_end v ws k f l h =
-    let cs = h.legal.clauses in
-    let z : spelled (drop f.clauses cs) ≡ [] = sym h.rest ∙ drop_all k ws l in
-    let m : length (drop f.clauses cs) ≡ 0 = omega (arith, length-spelled (drop f.clauses cs), ap length z) in
-    let n : f.clauses ≡ length cs = omega (arith, h.few, length-drop f.clauses cs) in
-    subst (λ ds. Holds v ds f) (sym (clauses_legal v ws h.legal))
-    (record { made = h.made; variables = h.variables; clauses = n; entries = λ i s. h.entries i (omega arith); each = h.legal.each })
+  pub loading_few : length ws ≤ 5120
+  loading_few = omega (arith, ap length h.rest, length-spelled (drop n cs), h.room, length-drop n cs, h.legal.number)
+
+  -- there is no 0 any more
+  pub loading_end : FirstZero ws 0 (length ws) → Holds v (clauses_of all) f
+  loading_end z =
+      let last : length cs ≤ n =
+      ⊎_elim
+      (λ (q : n < length cs).
+      let next : ws ≡ get_or cs n [] ++ (pos 0 ∷ spelled (drop (n + 1) cs)) = h.rest ∙ ap spelled (drop_more cs n [] q) in
+      let k = zero_is v (get_or cs n []) (spelled (drop (n + 1) cs)) (length ws) (All-get_or (Clause v) cs n [] q h.legal.each).1 (subst (λ xs. FirstZero xs 0 (length ws)) next z) in
+      absurd (omega (arith, ap length next, length-append (get_or cs n []) (pos 0 ∷ spelled (drop (n + 1) cs)))))
+      (λ q. q)
+      (cases_lt n (length cs)) in
+      subst (λ ds. Holds v ds f) (sym (clauses_legal v all h.legal))
+      (record { variables = h.variables; clauses = omega (arith, h.few); entries = λ i s. h.entries i (omega arith); each = h.legal.each })

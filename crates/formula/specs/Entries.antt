@@ -59,10 +59,6 @@ any_of p (w ∷ ws) = p w || any_of p ws
 abbrev pub entry_of : List ℤ → ℕ → Entry
 entry_of c x = record { variable = x; plain = any_of (is_plain x) c; negated = any_of (is_negated x) c }
 
--- one word more
-abbrev pub with_word : Entry → ℤ → Entry
-with_word e w = record { variable = e.variable; plain = e.plain || is_plain e.variable w; negated = e.negated || is_negated e.variable w }
-
 abbrev pub kept : Entry → List Entry
 kept e = cond (e.plain || e.negated) (e ∷ []) []
 

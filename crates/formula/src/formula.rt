@@ -1,99 +1,80 @@
 // The clauses of a formula as entries.
-ghost use Rattle.std.specs.Prelude.{◌≡◌, ◌+◌, ◌<◌, ◌≤◌, true, ◌||◌, length};
-ghost use Rattle.cnf.specs.Tables.{Legal, clauses_of};
-ghost use Rattle.formula.specs.Entries.{entry_of};
-ghost use Rattle.formula.specs.Formulas.{Sized, Made, kept_in, Added, Holds, FirstZero};
+ghost use Rattle.formula.specs.Made.{Made, made_prop};
 
 use crate::entry::{Entry, entry_of};
-
-// A part of an array: from `start` on and before `end`.
-#[derive(Clone, Copy)]
-pub struct Span {
-    pub start: u16,
-    pub end: u16,
-}
+use crate::span::Span;
+use crate::zero::first_zero;
+use arrayvec::ArrayVec;
 
 // Each clause has its entries in one span, by rising variable.
 #[derive(Drop)]
 pub struct Formula {
     pub variables: u16,
-    pub clauses: u16,
-    pub used: u16,
-    pub spans: [Span; 1024],
-    pub entries: [Entry; 4096],
-}
-
-// The place of the first 0 at or after the place `from`, or the end.
-fn first_zero(words: &[i32], from: usize) -> usize
-    requires { from ≤ length words.now }
-    ensures { FirstZero words.now from result }
-{
-    let mut k = from;
-    while k < words.len() && words[k] != 0 {
-        k += 1;
-    }
-    k
+    pub(crate) spans: ArrayVec<Span, 1024>,
+    pub(crate) entries: ArrayVec<Entry, 4096>,
+    ghost made: { Made variables spans.items entries.items } by { made_prop variables spans.items entries.items },
 }
 
 impl Formula {
+    ghost use Rattle.std.specs.Prelude.{◌≡◌, ◌+◌, ◌<◌, ◌≤◌, length};
+    ghost use Rattle.cnf.specs.Tables.{Legal, clauses_of};
+    ghost use Rattle.formula.specs.Formulas.{clause_count, entry_count, entries_of, Added, Holds};
+
     // No clause yet.
     pub fn new() -> Formula
-        ensures { (Sized result) × (result.clauses ≡ 0) }
+        ensures { clause_count result ≡ 0 }
     {
         Formula {
             variables: 0,
-            clauses: 0,
-            used: 0,
-            spans: [Span { start: 0, end: 0 }; 1024],
-            entries: [Entry {
-                variable: 0,
-                plain: false,
-                negated: false,
-            }; 4096],
+            spans: ArrayVec::new(),
+            entries: ArrayVec::new(),
         }
     }
 
-    // Puts the clause's entry of the variable behind the others, if the clause names the variable at all.
-    fn keep(&mut self, clause: &[i32], variable: u8)
-        requires { ((entry_of clause.now variable).plain || (entry_of clause.now variable).negated) ≡ true → self.old.used < 4096 }
-        ensures { self.new ≡ kept_in self.old (entry_of clause.now variable) }
+    // How many clauses there are.
+    pub fn clauses(&self) -> usize
+        ensures { result ≡ clause_count self.now }
     {
-        let e = entry_of(clause, variable);
-        if e.plain || e.negated {
-            self.entries[self.used as usize] = e;
-            self.used += 1;
-        }
+        self.spans.len()
+    }
+
+    // The entries of a clause, by rising variable.
+    pub fn entries_of(&self, clause: usize) -> &[Entry]
+        requires { clause < clause_count self.now }
+        ensures { result.now ≡ entries_of self.now clause }
+    {
+        self.spans[clause].part_of(&self.entries)
     }
 
     // Puts a clause behind the others, its entries by rising variable.
     fn add_clause(&mut self, clause: &[i32])
-        requires { (Made self.old) × ((self.old.clauses < 1024) × (self.old.used + length clause.now ≤ 4096)) }
+        requires few { clause_count self.old < 1024 }
+        requires room { entry_count self.old + length clause.now ≤ 4096 }
         ensures { Added clause.now self.old self.new }
     {
-        let start = self.used;
+        let start = self.entries.len() as u16;
         for v in 0..self.variables {
-            self.keep(clause, v as u8);
+            let e = entry_of(clause, v as u8);
+            if e.is_named() {
+                self.entries.push(e);
+            }
         }
-        self.spans[self.clauses as usize] = Span {
-            start,
-            end: self.used,
-        };
-        self.clauses += 1;
+        let end = self.entries.len() as u16;
+        self.spans.push(Span { start, end });
     }
 
     // Takes over the clauses of a table.
     pub fn load(&mut self, variables: u16, words: &[i32])
-        requires { (Sized self.old) × (Legal variables words.now) }
+        requires { Legal variables words.now }
         ensures { Holds variables (clauses_of words.now) self.new }
     {
         self.variables = variables;
-        self.clauses = 0;
-        self.used = 0;
-        let mut begin = 0;
-        while begin < words.len() {
-            let end = first_zero(words, begin);
-            self.add_clause(&words[begin..end]);
-            begin = end + 1;
+        self.spans.clear();
+        self.entries.clear();
+        let mut rest = words;
+        while let Some(end) = first_zero(rest) {
+            self.add_clause(&rest[..end]);
+            rest = &rest[end + 1..];
         }
     }
 }

@@ -1,29 +1,30 @@
 // The words of a formula, as they were given.
-ghost use Rattle.std.specs.Prelude.{◌≡◌, ◌≤◌, length};
+ghost use Rattle.std.specs.Prelude.{◌≡◌, ◌≤◌, [], length};
 ghost use Rattle.formula.specs.Formulas.{words_of};
+
+use arrayvec::ArrayVec;
 
 #[derive(Drop)]
 pub struct Given {
-    pub used: u16,
-    pub words: [i32; 5120],
+    words: ArrayVec<i32, 5120>,
 }
 
 impl Given {
+    // No word yet.
     pub fn new() -> Given
-        ensures { (length result.words ≡ 5120) × (result.used ≡ 0) }
+        ensures { words_of result ≡ [] }
     {
         Given {
-            used: 0,
-            words: [0; 5120],
+            words: ArrayVec::new(),
         }
     }
 
     // Takes the words over.
     pub fn copy(&mut self, words: &[i32])
-        requires { (length self.old.words ≡ 5120) × (length words.now ≤ 5120) }
-        ensures { (words_of self.new ≡ words.now) × (length self.new.words ≡ 5120) }
+        requires { length words.now ≤ 5120 }
+        ensures { words_of self.new ≡ words.now }
     {
-        self.words[0..words.len()].copy_from_slice(words);
-        self.used = words.len() as u16;
+        self.words.clear();
+        self.words.try_extend_from_slice(words).unwrap();
     }
 }

@@ -6,3 +6,5 @@ pub mod formula;
 pub mod given;
 pub mod laws;
 pub mod occurrences;
+pub mod span;
+mod zero;

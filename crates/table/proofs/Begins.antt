@@ -1,42 +1,41 @@
 -- The start of a search.
 use Rattle.std.proofs.Common.{◌≡◌, ℕ, ◌+◌, ◌<◌, Bool, true, false, cond, eqb, List, length, get_or, set, pos, ◌-ℤ◌, sym, refl, ap, ◌∙◌, ap₂, mul-zero, arith}
 use Rattle.std.proofs.lemmas.Bool.{eq-eqb, or_left, cond-true, lt-ltb}
-use Rattle.std.proofs.lemmas.List.{get_or-set_same, get_or-set_other, length-set}
+use Rattle.std.proofs.lemmas.List.{get_or-set_same, get_or-set_other}
 use Rattle.formula.specs.declared.formula.Formula.{Formula}
 use Rattle.formula.specs.Clauses.{sum_to, flip_at}
 use Rattle.formula.specs.Entries.{count}
-use Rattle.formula.specs.Formulas.{Made, entries_of}
+use Rattle.formula.specs.Formulas.{clause_count, entries_of}
 use Rattle.formula.proofs.Sums.{at_all, sum_to_same, sum_to_const}
 use Rattle.table.specs.declared.table.Row.{Row}
 use Rattle.table.specs.declared.table.ClauseRow.{ClauseRow}
 use Rattle.table.specs.declared.table.Table.{Table}
-use Rattle.table.specs.Rows.{loss, cost_in, loss_at, clause0, row_at, value_at, stamp_at, weight_at, count_at, rules_of, cleared, row_from}
+use Rattle.table.specs.Rows.{loss, cost_in, loss_at, clause0, row_at, value_at, stamp_at, weight_at, count_at, rules_of, row_from}
 use Rattle.table.specs.Sound.{Sound, Weighing, Counted, Begun}
 
 -- one clause more is counted
 pub counted_more : (f : Formula) (i n : ℕ) (t u : Table) → i < 1024 → Counted f i t → u.rows ≡ t.rows → u.clauses ≡ set t.clauses i (record { weight = 0; count = n }) → n ≡ count (value_at t) (entries_of f i) → Counted f (i + 1) u
 counted_more f i n t u l h er ec en =
     let r : ClauseRow = record { weight = 0; count = n } in
-    let same : get_or u.clauses i clause0 ≡ r = ap (λ cs. get_or cs i clause0) ec ∙ get_or-set_same t.clauses i r clause0 (omega (arith, h.clause_rows)) in
+    let same : get_or u.clauses i clause0 ≡ r = ap (λ cs. get_or cs i clause0) ec ∙ get_or-set_same t.clauses i r clause0 (omega (arith, t.clause_size)) in
     let other : (k : ℕ) → (k ≡ i → ⊥) → get_or u.clauses k clause0 ≡ get_or t.clauses k clause0 = λ k ne. ap (λ cs. get_or cs k clause0) ec ∙ get_or-set_other t.clauses i k r clause0 ne in
     let ev : value_at t ≡ value_at u = ap (λ rs. λ y. (get_or rs y (record { value = false; score = pos 0; stamp = 0; changed = false })).value) (sym er) in
     record {
-      clause_rows = ap length ec ∙ (length-set t.clauses i r ∙ h.clause_rows);
       weights = at_all (λ k. k < i + 1 → weight_at u k ≡ 0) i (λ _. ap (λ (z : ClauseRow). z.weight) same) (λ k ne m. ap (λ (z : ClauseRow). z.weight) (other k ne) ∙ h.weights k (omega arith));
       counts = at_all (λ k. k < i + 1 → count_at u k ≡ count (value_at u) (entries_of f k)) i
           (λ _. ap (λ (z : ClauseRow). z.count) same ∙ (en ∙ ap (λ a. count a (entries_of f i)) ev))
           (λ k ne m. ap (λ (z : ClauseRow). z.count) (other k ne) ∙ (h.counts k (omega arith) ∙ ap (λ a. count a (entries_of f k)) ev));
     }
 
-module _ (f : Formula) (start : List ℕ) (t : Table) (made : Made f) (n : length start ≡ f.variables) (rows : length t.rows ≡ 256) (is : (k : ℕ) → k < length start → row_at t k ≡ row_from (get_or start k 0)) (h : Counted f f.clauses t) (c0 : t.cost ≡ 0) (s0 : t.total ≡ 0) (t0 : t.tick ≡ 0) where
+pub no_weight : (f : Formula) (W : ℕ → ℕ) → ((k : ℕ) → k < clause_count f → W k ≡ 0) → sum_to (clause_count f) W ≡ 0
+no_weight f W h = sum_to_same (clause_count f) W (λ _. 0) h ∙ (sum_to_const (clause_count f) 0 ∙ mul-zero (clause_count f))
+
+module _ (f : Formula) (start : List ℕ) (t : Table) (n : length start ≡ f.variables) (is : (k : ℕ) → k < length start → row_at t k ≡ row_from (get_or start k 0)) (h : Counted f (clause_count f) t) (c0 : t.cost ≡ 0) (s0 : t.total ≡ 0) (t0 : t.tick ≡ 0) where
   row : (y : ℕ) → y < f.variables → row_at t y ≡ row_from (get_or start y 0)
   row y l = is y (omega arith)
 
-  pub nothing_light : sum_to f.clauses (weight_at t) ≡ 0
-  nothing_light = sum_to_same f.clauses (weight_at t) (λ _. 0) (λ k m. h.weights k m) ∙ (sum_to_const f.clauses 0 ∙ mul-zero f.clauses)
-
   no_cost : (a : ℕ → Bool) → cost_in (rules_of f t) a ≡ 0
-  no_cost a = sum_to_same f.clauses (loss (rules_of f t) a) (λ _. 0) (λ k m. ap (λ w. loss_at w a (entries_of f k)) (h.weights k m) ∙ both (eqb (count a (entries_of f k)) 0)) ∙ (sum_to_const f.clauses 0 ∙ mul-zero f.clauses)
+  no_cost a = sum_to_same (clause_count f) (loss (rules_of f t) a) (λ _. 0) (λ k m. ap (λ w. loss_at w a (entries_of f k)) (h.weights k m) ∙ both (eqb (count a (entries_of f k)) 0)) ∙ (sum_to_const (clause_count f) 0 ∙ mul-zero (clause_count f))
     where
       both : (b : Bool) → cond {A = ℕ} b 0 0 ≡ 0
       both true = refl
@@ -45,28 +44,21 @@ module _ (f : Formula) (start : List ℕ) (t : Table) (made : Made f) (n : lengt
   pub sound_begin : Sound f t
   sound_begin =
       record {
-        sized = record { rows = rows; clauses = h.clause_rows };
-        light = omega (arith, nothing_light);
+        light = omega (arith, (no_weight f (weight_at t) h.weights));
         counts = h.counts;
         scores = λ y l. ap (λ (r : Row). r.score) (row y l) ∙ sym (ap₂ (λ m n. pos m -ℤ pos n) (no_cost (value_at t)) (no_cost (flip_at y (value_at t))));
         costs = c0 ∙ sym (no_cost (value_at t));
-        totals = s0 ∙ sym nothing_light;
+        totals = s0 ∙ sym (no_weight f (weight_at t) h.weights);
         marks = λ y l. ap (λ (r : Row). r.changed) (row y l) ∙ sym (or_left _ _ (eq-eqb (stamp_at t y) 0 (ap (λ (r : Row). r.stamp) (row y l))));
         stamps = λ y l. omega (arith, ap (λ (r : Row). r.stamp) (row y l));
       }
 
-  pub begun : (u : Table) → Weighing f (λ _. 1) f.clauses t u → Begun f start u
+  pub begun : (u : Table) → Weighing f (λ _. 1) (clause_count f) t u → Begun f start u
   begun u w =
       record {
         sound = w.sound;
         values = λ y l. w.values y ∙ ap (λ (r : Row). r.value) (row y l);
         stamps = λ y l. w.stamps y ∙ ap (λ (r : Row). r.stamp) (row y l);
-        weights = λ k l. w.weights k ∙ cond-true _ _ _ (lt-ltb k f.clauses l);
+        weights = λ k l. w.weights k ∙ cond-true _ _ _ (lt-ltb k (clause_count f) l);
         ticks = w.ticks ∙ t0;
       }
-
-pub counted_cleared : (f : Formula) (i : ℕ) (t : Table) → Counted f i t → Counted f i (cleared t)
-counted_cleared f i t h = record { clause_rows = h.clause_rows; weights = h.weights; counts = h.counts }
-
-pub rows_cleared : (start : List ℕ) (t u : Table) → u.rows ≡ t.rows → ((k : ℕ) → k < length start → row_at t k ≡ row_from (get_or start k 0)) → (k : ℕ) → k < length start → row_at (cleared u) k ≡ row_from (get_or start k 0)
-rows_cleared start t u e h k l = ap (λ rs. get_or rs k (record { value = false; score = pos 0; stamp = 0; changed = false })) e ∙ h k l

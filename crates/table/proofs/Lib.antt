@@ -7,5 +7,4 @@ pub mod Reweighs
 pub mod Weighings
 pub mod Begins
 pub mod Weighs
-pub mod Passing
 pub mod Facts

@@ -1,12 +1,14 @@
 -- New weights for clause after clause.
-use Rattle.std.proofs.Common.{◌≡◌, ℕ, zero, suc, ◌+◌, ◌*◌, ◌/◌, ◌^◌, ◌<◌, ◌≤◌, Bool, true, false, cond, eqb, ltb, sym, refl, ap, ◌∙◌, mul_assoc, suc-mul, mul_comm, div-mul-le_self, arith}
+use Rattle.std.proofs.Common.{◌≡◌, ℕ, zero, suc, ◌+◌, ◌*◌, ◌/◌, ◌^◌, ◌<◌, ◌≤◌, Bool, true, false, cond, eqb, ltb, sym, refl, ap, ◌∙◌, ap₂, mul_assoc, suc-mul, mul_comm, div-mul-le_self, arith}
 use Rattle.std.proofs.lemmas.Bool.{eq-eqb, ne_eqb, cond-true, cond-false, lt-ltb, le-ltb}
 use Rattle.std.proofs.lemmas.Bool.Decides.{nat_tests}
 use Rattle.formula.specs.declared.formula.Formula.{Formula}
+use Rattle.formula.specs.Formulas.{clause_count}
 use Rattle.formula.specs.Clauses.{sum_to}
 use Rattle.formula.proofs.Sums.{at_all, sum_to_same, sum_to_le, sum_to_add, sum_to_const}
+use Rattle.table.specs.declared.table.ClauseRow.{ClauseRow}
 use Rattle.table.specs.declared.table.Table.{Table}
-use Rattle.table.specs.Rows.{weight_at, count_at, gained, eased_at, reweighted}
+use Rattle.table.specs.Rows.{clause_at, weight_at, count_at, gained, eased_at, reweighted}
 use Rattle.table.specs.Sound.{Sound, Reweighed, Weighing}
 
 -- a mix of two weightings weighs less than both together
@@ -31,9 +33,9 @@ next_mix V W U i w e h =
     later : (k : ℕ) → (k ≡ i → ⊥) → ltb k i ≡ ltb k (i + 1)
     later k ne = grind (arith, nat_tests)
 
-pub weighing_light : (f : Formula) (V : ℕ → ℕ) (i w : ℕ) (t u : Table) → w ≡ V i → Weighing f V i t u → sum_to f.clauses (weight_at t) + sum_to f.clauses V < 2 ^ 40 → sum_to f.clauses (reweighted (weight_at u) i w) < 2 ^ 40
+pub weighing_light : (f : Formula) (V : ℕ → ℕ) (i w : ℕ) (t u : Table) → w ≡ V i → Weighing f V i t u → sum_to (clause_count f) (weight_at t) + sum_to (clause_count f) V < 2 ^ 40 → sum_to (clause_count f) (reweighted (weight_at u) i w) < 2 ^ 40
 weighing_light f V i w t u e h l =
-    omega (arith, sum_to_same f.clauses (reweighted (weight_at u) i w) (λ k. cond (ltb k (i + 1)) (V k) (weight_at t k)) (λ k _. next_mix V (weight_at t) (weight_at u) i w e h.weights k), mix_le f.clauses (i + 1) (weight_at t) V)
+    omega (arith, sum_to_same (clause_count f) (reweighted (weight_at u) i w) (λ k. cond (ltb k (i + 1)) (V k) (weight_at t k)) (λ k _. next_mix V (weight_at t) (weight_at u) i w e h.weights k), mix_le (clause_count f) (i + 1) (weight_at t) V)
 
 pub weighing_more : (f : Formula) (V : ℕ → ℕ) (i w : ℕ) (t u v : Table) → w ≡ V i → Weighing f V i t u → Reweighed f i w u v → Weighing f V (i + 1) t v
 weighing_more f V i w t u v e h r =
@@ -49,6 +51,11 @@ weighing_more f V i w t u v e h r =
 -- what a turn reads of clause i is what it was
 pub weighing_now : (f : Formula) (V : ℕ → ℕ) (i : ℕ) (t u : Table) → Weighing f V i t u → weight_at u i ≡ weight_at t i
 weighing_now f V i t u h = h.weights i ∙ cond-false _ _ _ (le-ltb i i (omega arith))
+
+pub row_now : (f : Formula) (V : ℕ → ℕ) (i : ℕ) (t u : Table) → Weighing f V i t u → clause_at u i ≡ clause_at t i
+row_now f V i t u h =
+    let row : ℕ → ℕ → ClauseRow = λ w n. record { weight = w; count = n } in
+    ap₂ row (weighing_now f V i t u h) (h.counts i)
 
 pub gained_light : (n : ℕ) (t : Table) → sum_to n (gained t) ≤ sum_to n (weight_at t) + n
 gained_light n t = omega (arith, sum_to_le n (gained t) (λ k. weight_at t k + 1) (λ k _. go (eqb (count_at t k) 0) (weight_at t k)), sum_to_add n (weight_at t) (λ _. 1), sum_to_const n 1)

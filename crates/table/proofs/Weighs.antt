@@ -4,7 +4,7 @@ use native.Mathlib.Nat.{zero-div}
 use Rattle.std.proofs.lemmas.Bool.{cond-true, cond-false, lt-ltb, le-ltb}
 use Rattle.formula.specs.declared.formula.Formula.{Formula}
 use Rattle.formula.specs.Clauses.{sum_to}
-use Rattle.formula.specs.Formulas.{Made}
+use Rattle.formula.specs.Formulas.{clause_count}
 use Rattle.formula.proofs.Sums.{sum_to_same}
 use Rattle.table.specs.declared.table.Table.{Table}
 use Rattle.table.specs.Weights.{share_of}
@@ -37,22 +37,22 @@ share_sum v n s = omega (arith, ten_shares v n s)
 pub share_small : (v n s : ℕ) → 0 < n → share_of v n s ≤ s
 share_small v n s p = quot_small (leb n (15 * v)) n s p
 
-module _ (f : Formula) (t u : Table) (made : Made f) (s : Sound f t) (small : t.total < 2 ^ 30) (w : Weighing f (gained t) f.clauses t u) where
-  gained_is : (k : ℕ) → k < f.clauses → weight_at u k ≡ gained t k
-  gained_is k l = w.weights k ∙ cond-true _ _ _ (lt-ltb k f.clauses l)
+module _ (f : Formula) (t u : Table) (s : Sound f t) (small : t.total < 2 ^ 30) (w : Weighing f (gained t) (clause_count f) t u) where
+  gained_is : (k : ℕ) → k < clause_count f → weight_at u k ≡ gained t k
+  gained_is k l = w.weights k ∙ cond-true _ _ _ (lt-ltb k (clause_count f) l)
 
-  sum_is : sum_to f.clauses (weight_at u) ≡ sum_to f.clauses (gained t)
-  sum_is = sum_to_same f.clauses (weight_at u) (gained t) gained_is
+  sum_is : sum_to (clause_count f) (weight_at u) ≡ sum_to (clause_count f) (gained t)
+  sum_is = sum_to_same (clause_count f) (weight_at u) (gained t) gained_is
 
-  pub total_is : u.total ≡ sum_to f.clauses (gained t)
+  pub total_is : u.total ≡ sum_to (clause_count f) (gained t)
   total_is = w.sound.totals ∙ sum_is
 
-  pub gained_small : sum_to f.clauses (weight_at u) < 2 ^ 31
-  gained_small = omega (arith, sum_is, gained_light f.clauses t, made.few_clauses, s.totals)
+  pub gained_small : sum_to (clause_count f) (weight_at u) < 2 ^ 31
+  gained_small = omega (arith, sum_is, gained_light (clause_count f) t, f.made.few_clauses, s.totals)
 
-  pub unsmoothed : u.total ≤ 300 * f.clauses → Weighed f t u
+  pub unsmoothed : u.total ≤ 300 * clause_count f → Weighed f t u
   unsmoothed h =
-      let n : ltb (300 * f.clauses) (sum_to f.clauses (gained t)) ≡ false = le-ltb _ _ (omega (arith, total_is)) in
+      let n : ltb (300 * clause_count f) (sum_to (clause_count f) (gained t)) ≡ false = le-ltb _ _ (omega (arith, total_is)) in
       record {
         sound = w.sound;
         values = w.values;
@@ -61,14 +61,14 @@ module _ (f : Formula) (t u : Table) (made : Made f) (s : Sound f t) (small : t.
         ticks = w.ticks;
       }
 
-  pub smoothed : (share : ℕ) (v : Table) → 300 * f.clauses < u.total → share ≡ share_of f.variables f.clauses u.total → Weighing f (eased_at u share) f.clauses u v → Weighed f t v
+  pub smoothed : (share : ℕ) (v : Table) → 300 * clause_count f < u.total → share ≡ share_of f.variables (clause_count f) u.total → Weighing f (eased_at u share) (clause_count f) u v → Weighed f t v
   smoothed share v h e x =
-      let n : ltb (300 * f.clauses) (sum_to f.clauses (gained t)) ≡ true = lt-ltb _ _ (omega (arith, total_is)) in
-      let q : share ≡ share_of f.variables f.clauses (sum_to f.clauses (gained t)) = e ∙ ap (share_of f.variables f.clauses) total_is in
+      let n : ltb (300 * clause_count f) (sum_to (clause_count f) (gained t)) ≡ true = lt-ltb _ _ (omega (arith, total_is)) in
+      let q : share ≡ share_of f.variables (clause_count f) (sum_to (clause_count f) (gained t)) = e ∙ ap (share_of f.variables (clause_count f)) total_is in
       record {
         sound = x.sound;
         values = λ y. x.values y ∙ w.values y;
         stamps = λ y. x.stamps y ∙ w.stamps y;
-        weights = λ k l. x.weights k ∙ (cond-true _ _ _ (lt-ltb k f.clauses l) ∙ (ap₂ (λ a b. 3 * a / 10 + b) (gained_is k l) q ∙ sym (cond-true _ _ _ n)));
+        weights = λ k l. x.weights k ∙ (cond-true _ _ _ (lt-ltb k (clause_count f) l) ∙ (ap₂ (λ a b. 3 * a / 10 + b) (gained_is k l) q ∙ sym (cond-true _ _ _ n)));
         ticks = x.ticks ∙ w.ticks;
       }

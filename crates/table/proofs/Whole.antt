@@ -1,20 +1,20 @@
 -- The whole flip.
-use Rattle.std.proofs.Common.{◌≡◌, ℕ, ◌+◌, ◌^◌, ◌<◌, ◌≤◌, Bool, true, false, cond, not, ◌&&◌, ◌||◌, eqb, ltb, pos, ◌-ℤ◌, neg_ℤ, sym, refl, ap, ◌∙◌, subst, ap₂, add-one, arith}
+use Rattle.std.proofs.Common.{◌≡◌, ℕ, ◌+◌, ◌^◌, ◌<◌, ◌≤◌, Bool, true, false, cond, not, ◌&&◌, ◌||◌, eqb, ltb, get_or, pos, ◌-ℤ◌, neg_ℤ, sym, refl, ap, ◌∙◌, subst, ap₂, add-one, arith}
 use mathlib.Core.Path.{fun_ext}
 use Rattle.std.proofs.lemmas.Int.{ints}
 use Rattle.std.proofs.lemmas.Bool.{eq-eqb, ne_eqb, or_parts, or_from, and_right, and_from, and_parts, cond-true, cond-false, lt-ltb, le-ltb}
-use Rattle.std.proofs.lemmas.List.{get_or-set_same, get_or-set_other, length-set}
+use Rattle.std.proofs.lemmas.List.{get_or-set_same, get_or-set_other}
 use Rattle.std.proofs.lemmas.Bool.Decides.{nat_tests}
 use Rattle.formula.specs.declared.formula.Formula.{Formula}
 use Rattle.formula.specs.Clauses.{sum_to, any_to, flip_at}
 use Rattle.formula.specs.Entries.{count, named_in}
-use Rattle.formula.specs.Formulas.{Made, entries_of}
+use Rattle.formula.specs.Formulas.{clause_count, entries_of}
 use Rattle.formula.proofs.Sums.{at_all, or_assoc, any_to_same, any_to_none, any_to_gain}
 use Rattle.formula.proofs.Counts.{flipped_same, flipped_other}
 use Rattle.table.specs.declared.table.Row.{Row}
 use Rattle.table.specs.declared.table.Table.{Table}
-use Rattle.table.specs.Rows.{Rules, loss, cost_in, score_in, near_in, changed_in, Within, row0, row_at, value_at, score_at, stamp_at, changed_at, weight_at, count_at, rules_of, rules_with, turned_row}
-use Rattle.table.specs.Sound.{Sized, Sound, cost_between, score_between, Midway, Revised, Since, Flipped}
+use Rattle.table.specs.Rows.{Rules, loss, cost_in, score_in, near_in, changed_in, Within, row0, clause0, row_at, value_at, score_at, stamp_at, changed_at, weight_at, count_at, rules_of, rules_with, TurnedRow}
+use Rattle.table.specs.Sound.{Sound, cost_between, score_between, Midway, Revised, Since, Flipped}
 use Rattle.table.proofs.Shares.{partly_none, partly_all, cost_le}
 
 pub flipped_twice : (x : ℕ) (a : ℕ → Bool) → flip_at x (flip_at x a) ≡ a
@@ -35,7 +35,6 @@ pub midway_start : (f : Formula) (t : Table) (x : ℕ) → Sound f t → Midway 
 midway_start f t x s =
     let r = rules_of f t in
     record {
-      sized = s.sized;
       light = s.light;
       counts = λ k l. s.counts k l ∙ sym (cond-false _ _ _ (le-ltb k 0 (omega arith)));
       scores = λ y l ne. s.scores y l ∙ sym (ap₂ (λ m n. pos m -ℤ pos n) (partly_none r.number (loss r (value_at t)) (loss r (flip_at x (value_at t)))) (partly_none r.number (loss r (flip_at y (value_at t))) (loss r (flip_at y (flip_at x (value_at t))))));
@@ -65,23 +64,22 @@ pub score-within : (f : Formula) (t : Table) (x : ℕ) → x < f.variables → S
 score-within f t x l s =
     let e = s.scores x l in
     let r = rules_of f t in
-    let p : cost_in r (value_at t) ≤ sum_to f.clauses (weight_at t) = omega (arith, cost_le r 0 (value_at t) (value_at t), partly_none r.number (loss r (value_at t)) (loss r (value_at t))) in
-    let q : cost_in r (flip_at x (value_at t)) ≤ sum_to f.clauses (weight_at t) = omega (arith, cost_le r 0 (flip_at x (value_at t)) (value_at t), partly_none r.number (loss r (flip_at x (value_at t))) (loss r (value_at t))) in
+    let p : cost_in r (value_at t) ≤ sum_to (clause_count f) (weight_at t) = omega (arith, cost_le r 0 (value_at t) (value_at t), partly_none r.number (loss r (value_at t)) (loss r (value_at t))) in
+    let q : cost_in r (flip_at x (value_at t)) ≤ sum_to (clause_count f) (weight_at t) = omega (arith, cost_le r 0 (flip_at x (value_at t)) (value_at t), partly_none r.number (loss r (flip_at x (value_at t))) (loss r (value_at t))) in
     let k = s.light in
     omega (arith, ints)
 
 -- what is said of other values and weights holds of a table that has them
-pub sound_over : (f : Formula) (W : ℕ → ℕ) (u : Table) (b : ℕ → Bool) → Sized u → ((y : ℕ) → value_at u y ≡ b y) → ((k : ℕ) → weight_at u k ≡ W k) → sum_to f.clauses W < 2 ^ 40 → u.total ≡ sum_to f.clauses W → ((k : ℕ) → k < f.clauses → count_at u k ≡ count b (entries_of f k)) → ((y : ℕ) → y < f.variables → score_at u y ≡ score_in (rules_with f W) b y) → u.cost ≡ cost_in (rules_with f W) b → ((y : ℕ) → y < f.variables → changed_at u y ≡ changed_in (rules_with f W) f.variables (stamp_at u) y) → ((y : ℕ) → y < f.variables → stamp_at u y ≤ u.tick) → Sound f u
-sound_over f W u b z values weights light totals counts scores costs marks stamps =
+pub sound_over : (f : Formula) (W : ℕ → ℕ) (u : Table) (b : ℕ → Bool) → ((y : ℕ) → value_at u y ≡ b y) → ((k : ℕ) → weight_at u k ≡ W k) → sum_to (clause_count f) W < 2 ^ 40 → u.total ≡ sum_to (clause_count f) W → ((k : ℕ) → k < clause_count f → count_at u k ≡ count b (entries_of f k)) → ((y : ℕ) → y < f.variables → score_at u y ≡ score_in (rules_with f W) b y) → u.cost ≡ cost_in (rules_with f W) b → ((y : ℕ) → y < f.variables → changed_at u y ≡ changed_in (rules_with f W) f.variables (stamp_at u) y) → ((y : ℕ) → y < f.variables → stamp_at u y ≤ u.tick) → Sound f u
+sound_over f W u b values weights light totals counts scores costs marks stamps =
     let ev : b ≡ value_at u = fun_ext (λ y. sym (values y)) in
     let ew : W ≡ weight_at u = fun_ext (λ y. sym (weights y)) in
     record {
-      sized = z;
-      light = subst (λ w. sum_to f.clauses w < 2 ^ 40) ew light;
+      light = subst (λ w. sum_to (clause_count f) w < 2 ^ 40) ew light;
       counts = λ k l. counts k l ∙ ap (λ a. count a (entries_of f k)) ev;
       scores = λ y l. scores y l ∙ ap₂ (λ w a. score_in (rules_with f w) a y) ew ev;
       costs = costs ∙ ap₂ (λ w a. cost_in (rules_with f w) a) ew ev;
-      totals = totals ∙ ap (sum_to f.clauses) ew;
+      totals = totals ∙ ap (sum_to (clause_count f)) ew;
       marks = marks;
       stamps = stamps;
     }
@@ -95,10 +93,7 @@ and_comm true false = refl
 and_comm false true = refl
 and_comm false false = refl
 
-module _ (f : Formula) (t u : Table) (x : ℕ) (made : Made f) (l : x < f.variables) (s : Sound f t) (mid : Midway f u x f.clauses) (h : Since f x f.clauses t u) where
-  abbrev v : Table
-  v = turned_row u x
-
+module _ (f : Formula) (t u v : Table) (x : ℕ) (l : x < f.variables) (s : Sound f t) (mid : Midway f u x (clause_count f)) (h : Since f x (clause_count f) t u) (z : TurnedRow x u v) where
   abbrev b : ℕ → Bool
   b = flip_at x (value_at t)
 
@@ -106,10 +101,10 @@ module _ (f : Formula) (t u : Table) (x : ℕ) (made : Made f) (l : x < f.variab
   r = record { value = not (row_at u x).value; score = neg_ℤ (row_at u x).score; stamp = u.tick + 1; changed = false }
 
   same : row_at v x ≡ r
-  same = get_or-set_same u.rows x r row0 (omega (arith, mid.sized.rows, made.few_variables))
+  same = ap (λ rs. get_or rs x row0) z.rows ∙ get_or-set_same u.rows x r row0 (omega (arith, u.size, f.made.few_variables))
 
   other : (y : ℕ) → (y ≡ x → ⊥) → row_at v y ≡ row_at u y
-  other y ne = get_or-set_other u.rows x y r row0 ne
+  other y ne = ap (λ rs. get_or rs y row0) z.rows ∙ get_or-set_other u.rows x y r row0 ne
 
   eu : value_at u ≡ value_at t
   eu = fun_ext h.values
@@ -139,11 +134,11 @@ module _ (f : Formula) (t u : Table) (x : ℕ) (made : Made f) (l : x < f.variab
   abbrev Rw : (ℕ → ℕ) → Rules
   Rw w = rules_with f w
 
-  counts' : (k : ℕ) → k < f.clauses → count_at v k ≡ count b (entries_of f k)
-  counts' k m = mid.counts k m ∙ (cond-true _ _ _ (lt-ltb k f.clauses m) ∙ ap (λ a. count (flip_at x a) (entries_of f k)) eu)
+  counts' : (k : ℕ) → k < clause_count f → count_at v k ≡ count b (entries_of f k)
+  counts' k m = ap (λ cs. (get_or cs k clause0).count) z.clauses ∙ mid.counts k m ∙ (cond-true _ _ _ (lt-ltb k (clause_count f) m) ∙ ap (λ a. count (flip_at x a) (entries_of f k)) eu)
 
   costs' : v.cost ≡ cost_in R b
-  costs' = mid.costs ∙ (ap₂ (λ w a. cost_between (Rw w) f.clauses a (flip_at x a)) ew eu ∙ partly_all f.clauses (loss R (value_at t)) (loss R b))
+  costs' = z.cost ∙ mid.costs ∙ (ap₂ (λ w a. cost_between (Rw w) (clause_count f) a (flip_at x a)) ew eu ∙ partly_all (clause_count f) (loss R (value_at t)) (loss R b))
 
   scores' : (y : ℕ) → y < f.variables → score_at v y ≡ score_in R b y
   scores' = at_all (λ y. y < f.variables → score_at v y ≡ score_in R b y) x
@@ -151,14 +146,14 @@ module _ (f : Formula) (t u : Table) (x : ℕ) (made : Made f) (l : x < f.variab
       (λ y ne m.
       ap (λ (z : Row). z.score) (other y ne)
       ∙ (mid.scores y m ne
-      ∙ (ap₂ (λ w a. score_between (Rw w) f.clauses a (flip_at x a) y) ew eu
-      ∙ ap₂ (λ m n. pos m -ℤ pos n) (partly_all f.clauses (loss R (value_at t)) (loss R b)) (partly_all f.clauses (loss R (flip_at y (value_at t))) (loss R (flip_at y b))))))
+      ∙ (ap₂ (λ w a. score_between (Rw w) (clause_count f) a (flip_at x a) y) ew eu
+      ∙ ap₂ (λ m n. pos m -ℤ pos n) (partly_all (clause_count f) (loss R (value_at t)) (loss R b)) (partly_all (clause_count f) (loss R (flip_at y (value_at t))) (loss R (flip_at y b))))))
 
   -- the neighbours of x, by the entries
-  near : (y : ℕ) → near_in R y x ≡ (not (eqb y x) && any_to f.clauses (λ k. named_in (entries_of f k) x && named_in (entries_of f k) y))
+  near : (y : ℕ) → near_in R y x ≡ (not (eqb y x) && any_to (clause_count f) (λ k. named_in (entries_of f k) x && named_in (entries_of f k) y))
   near y =
       ap (λ q. not (eqb y x) && q)
-      (any_to_same f.clauses _ _ (λ k m. and_comm (named_in (entries_of f k) y) (named_in (entries_of f k) x)))
+      (any_to_same (clause_count f) _ _ (λ k m. and_comm (named_in (entries_of f k) y) (named_in (entries_of f k) x)))
 
   mark_x : changed_in R f.variables (stamp_at v) x ≡ false
   mark_x =
@@ -182,20 +177,22 @@ module _ (f : Formula) (t u : Table) (x : ℕ) (made : Made f) (l : x < f.variab
       ∙ (or_assoc (eqb (stamp_at t y) 0) (any_to f.variables (λ z. near_in R y z && ltb (stamp_at t y) (stamp_at t z))) (near_in R y x)
       ∙ ap₂ (λ c d. eqb c 0 || d) (sym sy) (ap (λ c. any_to f.variables (λ z. near_in R y z && ltb (stamp_at t y) (stamp_at t z)) || c) (sym qx) ∙ sym g))))
 
+  weights' : (k : ℕ) → weight_at v k ≡ weight_at t k
+  weights' k = ap (λ cs. (get_or cs k clause0).weight) z.clauses ∙ h.weights k
+
   sound_end : Sound f v
   sound_end =
       sound_over f (weight_at t) v b
-      (record { rows = length-set u.rows x r ∙ mid.sized.rows; clauses = mid.sized.clauses })
-      values' h.weights s.light (mid.totals ∙ ap (sum_to f.clauses) ew) counts' scores' costs'
+      values' weights' s.light (z.total ∙ mid.totals ∙ ap (sum_to (clause_count f)) ew) counts' scores' costs'
       (at_all (λ y. y < f.variables → changed_at v y ≡ changed_in R f.variables (stamp_at v) y) x
       (λ _. ap (λ (z : Row). z.changed) same ∙ sym mark_x)
       mark_other)
       (at_all (λ y. y < f.variables → stamp_at v y ≤ v.tick) x
-      (λ _. omega (arith, stamp_x, h.ticks))
-      (λ y ne m. omega (arith, stamp_other y ne, s.stamps y m, h.ticks)))
+      (λ _. omega (arith, stamp_x, h.ticks, z.tick))
+      (λ y ne m. omega (arith, stamp_other y ne, s.stamps y m, h.ticks, z.tick)))
 
   pub flipped_end : Flipped f x t v
-  flipped_end = record { sound = sound_end; values = values'; stamps = stamps'; weights = h.weights; ticks = ap (λ n. n + 1) h.ticks; others = λ y ne k. other y ne ∙ h.kept y (sym (near y) ∙ k) }
+  flipped_end = record { sound = sound_end; values = values'; stamps = stamps'; weights = weights'; ticks = z.tick ∙ ap (λ n. n + 1) h.ticks; others = λ y ne k. other y ne ∙ h.kept y (sym (near y) ∙ k) }
 
 -- one clause more
 pub since_more : (f : Formula) (x i : ℕ) (t u v : Table) → Since f x i t u → Revised (entries_of f i) x u v → Since f x (i + 1) t v

@@ -1,10 +1,10 @@
 -- What the rows hold.
-use Rattle.std.specs.Prelude.{ℕ, ◌+◌, ◌-◌, ◌^◌, Bool, true, false, cond, not, ◌&&◌, ◌||◌, List, get_or, ℤ, pos, ◌+ℤ◌, ◌-ℤ◌, neg_ℤ, ◌<ℤ◌, ◌==◌, nat_lt, slice_index_or, slice_set}
+use Rattle.std.specs.Prelude.{◌≡◌, ℕ, ◌+◌, ◌-◌, ◌^◌, Bool, true, false, cond, not, ◌&&◌, ◌||◌, List, get_or, ℤ, pos, ◌+ℤ◌, ◌-ℤ◌, neg_ℤ, ◌<ℤ◌, ◌==◌, nat_lt, slice_index_or, slice_set}
 use Rattle.formula.specs.declared.entry.Entry.{Entry}
 use Rattle.formula.specs.declared.formula.Formula.{Formula}
 use Rattle.formula.specs.Clauses.{sum_to, any_to, flip_at}
 use Rattle.formula.specs.Entries.{trues, count, named_in}
-use Rattle.formula.specs.Formulas.{entries_of}
+use Rattle.formula.specs.Formulas.{clause_count, entries_of}
 use Rattle.table.specs.Weights.{eased}
 use Rattle.table.specs.declared.table.Row.{Row}
 use Rattle.table.specs.declared.table.ClauseRow.{ClauseRow}
@@ -47,6 +47,9 @@ stamp_at t y = (row_at t y).stamp
 abbrev pub changed_at : Table → ℕ → Bool
 changed_at t y = (row_at t y).changed
 
+abbrev pub clause_at : Table → ℕ → ClauseRow
+clause_at t i = get_or t.clauses i clause0
+
 abbrev pub weight_at : Table → ℕ → ℕ
 weight_at t i = (get_or t.clauses i clause0).weight
 
@@ -75,7 +78,7 @@ abbrev pub changed_in : Rules → ℕ → (ℕ → ℕ) → ℕ → Bool
 changed_in r v stamp x = stamp x == 0 || any_to v (λ y. near_in r x y && nat_lt (stamp x) (stamp y))
 
 abbrev pub rules_with : Formula → (ℕ → ℕ) → Rules
-rules_with f w = record { number = f.clauses; entries = entries_of f; weight = w }
+rules_with f w = record { number = clause_count f; entries = entries_of f; weight = w }
 
 abbrev pub rules_of : Formula → Table → Rules
 rules_of f t = rules_with f (weight_at t)
@@ -84,45 +87,33 @@ rules_of f t = rules_with f (weight_at t)
 abbrev pub Within : ℤ → Type 0
 Within z = (pos 0 <ℤ (z +ℤ pos (2 ^ 50))) × (z <ℤ pos (2 ^ 50))
 
-abbrev pub bumped : Table → ℕ → ℤ → Bool → Table
-bumped t y d mark =
-    record {
-      rows = slice_set t.rows y (record { value = (row_at t y).value; score = (row_at t y).score +ℤ d; stamp = (row_at t y).stamp; changed = (row_at t y).changed || mark });
-      clauses = t.clauses;
-      cost = t.cost;
-      total = t.total;
-      tick = t.tick;
-    }
+-- u is t with d added to the score of y, and y marked if `mark`
+pub record Bumped (y : ℕ) (d : ℤ) (mark : Bool) (t u : Table) : Type 0 where
+  pub rows : u.rows ≡ slice_set t.rows y (record { value = (row_at t y).value; score = (row_at t y).score +ℤ d; stamp = (row_at t y).stamp; changed = (row_at t y).changed || mark })
+  pub clauses : u.clauses ≡ t.clauses
+  pub cost : u.cost ≡ t.cost
+  pub total : u.total ≡ t.total
+  pub tick : u.tick ≡ t.tick
 
 -- what a clause of this row costs
 abbrev pub owed : ClauseRow → ℕ
 owed c = cond (c.count == 0) c.weight 0
 
--- the clause i gets the row c
-abbrev pub settled : Table → ℕ → ClauseRow → Table
-settled t i c =
-    record {
-      rows = t.rows;
-      clauses = slice_set t.clauses i c;
-      cost = (t.cost - owed (slice_index_or t.clauses i clause0)) + owed c;
-      total = (t.total - weight_at t i) + c.weight;
-      tick = t.tick;
-    }
+-- u is t with the row c for the clause i
+pub record Settled (i : ℕ) (c : ClauseRow) (t u : Table) : Type 0 where
+  pub rows : u.rows ≡ t.rows
+  pub clauses : u.clauses ≡ slice_set t.clauses i c
+  pub cost : u.cost ≡ (t.cost - owed (slice_index_or t.clauses i clause0)) + owed c
+  pub total : u.total ≡ (t.total - weight_at t i) + c.weight
+  pub tick : u.tick ≡ t.tick
 
--- the row of x at its flip
-abbrev pub turned_row : Table → ℕ → Table
-turned_row t x =
-    record {
-      rows = slice_set t.rows x (record { value = not (row_at t x).value; score = neg_ℤ (row_at t x).score; stamp = t.tick + 1; changed = false });
-      clauses = t.clauses;
-      cost = t.cost;
-      total = t.total;
-      tick = t.tick + 1;
-    }
-
--- the table with no cost, no weights' sum and no tick
-abbrev pub cleared : Table → Table
-cleared t = record { rows = t.rows; clauses = t.clauses; cost = 0; total = 0; tick = 0 }
+-- u is t with the row of x as it is after a flip of x
+pub record TurnedRow (x : ℕ) (t u : Table) : Type 0 where
+  pub rows : u.rows ≡ slice_set t.rows x (record { value = not (row_at t x).value; score = neg_ℤ (row_at t x).score; stamp = t.tick + 1; changed = false })
+  pub clauses : u.clauses ≡ t.clauses
+  pub cost : u.cost ≡ t.cost
+  pub total : u.total ≡ t.total
+  pub tick : u.tick ≡ t.tick + 1
 
 abbrev pub row_from : ℕ → Row
 row_from b = record { value = (b == 1); score = pos 0; stamp = 0; changed = true }

@@ -1,8 +1,8 @@
 // The rows that a search keeps of its variables and clauses.
-ghost use Rattle.table.specs.Sound.{Sized};
+ghost use Rattle.std.specs.Prelude.{◌≡◌, length};
 
 // What is kept of a variable.
-#[derive(Clone, Copy)]
+#[derive(Clone, Copy, Default)]
 pub struct Row {
     pub value: bool,
     pub score: i64,
@@ -11,7 +11,7 @@ pub struct Row {
 }
 
 // What is kept of a clause: its weight and how many of its different literals are true.
-#[derive(Clone, Copy)]
+#[derive(Clone, Copy, Default)]
 pub struct ClauseRow {
     pub weight: u32,
     pub count: u16,
@@ -25,23 +25,16 @@ pub struct Table {
     // The sum of all weights.
     pub total: u64,
     pub tick: u32,
+    ghost size: { length rows ≡ 256 },
+    ghost clause_size: { length clauses ≡ 1024 },
 }
 
 impl Table {
-    pub fn new() -> Table
-        ensures { Sized result }
-    {
+    // Rows that are all 0.
+    pub fn new() -> Table {
         Table {
-            rows: [Row {
-                value: false,
-                score: 0,
-                stamp: 0,
-                changed: false,
-            }; 256],
-            clauses: [ClauseRow {
-                weight: 0,
-                count: 0,
-            }; 1024],
+            rows: [Row::default(); 256],
+            clauses: [ClauseRow::default(); 1024],
             cost: 0,
             total: 0,
             tick: 0,

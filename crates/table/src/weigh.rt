@@ -1,20 +1,22 @@
 // Weights: what an unsatisfied clause gains, and smoothing.
-ghost use Rattle.std.specs.Prelude.{◌≡◌, ◌+◌, ◌*◌, ◌/◌, ◌^◌, ◌<◌, ◌≤◌};
+ghost use Rattle.std.specs.Prelude.{◌≡◌, ℕ, ◌+◌, ◌*◌, ◌/◌, ◌^◌, ◌<◌, ◌≤◌};
 ghost use Rattle.formula.specs.Clauses.{sum_to};
-ghost use Rattle.formula.specs.Formulas.{Made};
+ghost use Rattle.formula.specs.Formulas.{clause_count};
 ghost use Rattle.table.specs.Weights.{heavy, share_of, eased};
-ghost use Rattle.table.specs.Rows.{weight_at, reweighted, gained, eased_at};
-ghost use Rattle.table.specs.Sound.{Sound, Reweighed, Weighing, Weighed};
+ghost use Rattle.table.specs.Rows.{clause_at, weight_at, reweighted, gained, eased_at};
+ghost use Rattle.table.specs.Sound.{Sound, Makes, Reweighed, Weighing, Weighed};
 
+use crate::revise::Change;
 use crate::table::{ClauseRow, Table};
 use formula::formula::Formula;
 
 // The part of the weights' sum that smoothing gives to each clause.
 fn share_of(f: &Formula, total: u64) -> u32
-    requires { (Made f.now) × ((0 < f.now.clauses) × (total < 2 ^ 31)) }
-    ensures { result ≡ share_of f.now.variables f.now.clauses total }
+    requires some { 0 < clause_count f.now }
+    requires light { total < 2 ^ 31 }
+    ensures { result ≡ share_of f.now.variables (clause_count f.now) total }
 {
-    let clauses = f.clauses as u64;
+    let clauses = f.clauses() as u64;
     if clauses <= 15 * f.variables as u64 {
         0
     } else {
@@ -34,64 +36,67 @@ impl ClauseRow {
 
 impl Table {
     // Gives the clause `i` another weight, and brings the scores, the cost and the weights' sum up to date.
-    pub(crate) fn reweigh(&mut self, f: &Formula, i: usize, weight: u32)
-        requires { (Made f.now) × ((i < f.now.clauses) × ((Sound f.now self.old) × (sum_to f.now.clauses (reweighted (weight_at self.old) i weight) < 2 ^ 40))) }
+    fn reweigh(&mut self, f: &Formula, i: usize, weight: u32)
+        requires i_bound { i < clause_count f.now }
+        requires sound { Sound f.now self.old }
+        requires light { sum_to (clause_count f.now) (reweighted (weight_at self.old) i weight) < 2 ^ 40 }
         ensures { Reweighed f.now i weight self.old self.new }
     {
-        let span = f.spans[i];
-        let start = span.start as usize;
-        let end = span.end as usize;
         let before = self.clauses[i];
-        let after = ClauseRow {
-            weight,
-            count: before.count,
-        };
-        // No clause names a variable at place 256, so every entry is revised.
-        self.revise_entries(&f.entries[start..end], 256, before, after, false);
-        self.settle(i, after);
+        if weight != before.weight {
+            let after = ClauseRow {
+                weight,
+                count: before.count,
+            };
+            self.revise_entries(f.entries_of(i), None, Change { before, after }, false);
+            self.settle(i, after);
+        }
     }
 
-    // The clause `i` gains weight 1, if it is unsatisfied.
-    fn gain_weight(&mut self, f: &Formula, i: usize)
-        requires { (Made f.now) × ((i < f.now.clauses) × ((Sound f.now self.old) × ((weight_at self.old i < 2 ^ 31) × (sum_to f.now.clauses (reweighted (weight_at self.old) i (gained self.old i)) < 2 ^ 40)))) }
-        ensures { Reweighed f.now i (gained self.old i) self.old self.new }
+    // Gives each clause the weight that the rule makes of its row.
+    pub(crate) fn reweigh_all<R: Fn(ClauseRow) -> u32>(&mut self, f: &Formula, rule: R)
+        requires sound { Sound f.now self.old }
+        requires callable { (k : ℕ) → k < clause_count f.now → R.pre rule (clause_at self.old k) }
+        requires light { (V : ℕ → ℕ) × Makes (R.post rule) f.now self.old V × (sum_to (clause_count f.now) (weight_at self.old) + sum_to (clause_count f.now) V < 2 ^ 40) }
+        ensures { (V : ℕ → ℕ) → Makes (R.post rule) f.now self.old V → Weighing f.now V (clause_count f.now) self.old self.new }
     {
-        let row = self.clauses[i];
-        if row.count == 0 {
-            self.reweigh(f, i, row.weight + 1);
+        for i in 0..f.clauses() {
+            let weight = rule(self.clauses[i]);
+            self.reweigh(f, i, weight);
         }
     }
 
     // Each unsatisfied clause gains weight 1.
     fn gain_weights(&mut self, f: &Formula)
-        requires { (Made f.now) × ((Sound f.now self.old) × (sum_to f.now.clauses (weight_at self.old) < 2 ^ 31)) }
-        ensures { Weighing f.now (gained self.old) f.now.clauses self.old self.new }
+        requires sound { Sound f.now self.old }
+        requires light { sum_to (clause_count f.now) (weight_at self.old) < 2 ^ 31 }
+        ensures { Weighing f.now (gained self.old) (clause_count f.now) self.old self.new }
     {
-        for i in 0..f.clauses as usize {
-            self.gain_weight(f, i);
-        }
+        self.reweigh_all(f, |row| row.weight + (row.count == 0) as u32);
     }
 
     // Smooths every weight.
     fn smooth(&mut self, f: &Formula, share: u32)
-        requires { (Made f.now) × ((Sound f.now self.old) × ((sum_to f.now.clauses (weight_at self.old) < 2 ^ 31) × ((f.now.clauses * share < 2 ^ 31) × (share < 2 ^ 31)))) }
-        ensures { Weighing f.now (eased_at self.old share) f.now.clauses self.old self.new }
+        requires sound { Sound f.now self.old }
+        requires light { sum_to (clause_count f.now) (weight_at self.old) < 2 ^ 31 }
+        requires shares { (clause_count f.now * share < 2 ^ 31) × (share < 2 ^ 31) }
+        ensures { Weighing f.now (eased_at self.old share) (clause_count f.now) self.old self.new }
     {
-        for i in 0..f.clauses as usize {
-            let weight = self.clauses[i].smoothed(share);
-            self.reweigh(f, i, weight);
-        }
+        self.reweigh_all(f, |row| row.smoothed(share));
     }
+
     // Whether the weights are more than 300 on average.
     fn is_heavy(&self, f: &Formula) -> bool
-        ensures { result ≡ heavy f.now.clauses self.now.total }
+        ensures { result ≡ heavy (clause_count f.now) self.now.total }
     {
-        self.total > 300 * f.clauses as u64
+        self.total > 300 * f.clauses() as u64
     }
 
     // Each unsatisfied clause gains weight 1, and weights of more than 300 on average are smoothed.
     pub fn weigh(&mut self, f: &Formula)
-        requires { (Made f.now) × ((0 < f.now.clauses) × ((Sound f.now self.old) × (self.old.total < 2 ^ 30))) }
+        requires some { 0 < clause_count f.now }
+        requires sound { Sound f.now self.old }
+        requires light { self.old.total < 2 ^ 30 }
         ensures { Weighed f.now self.old self.new }
     {
         self.gain_weights(f);

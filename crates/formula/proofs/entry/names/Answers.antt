@@ -1,17 +1,14 @@
-use Rattle.std.proofs.Common.{sym, ap, ◌∙◌}
-use Rattle.std.proofs.lemmas.Bool.{ne_eqb, or_from}
-use Rattle.std.proofs.lemmas.List.{take_all}
+use Rattle.std.proofs.Common.{eqb, ◌||◌, refl, ◌∙◌, rules, tests}
+use Rattle.std.proofs.lemmas.Iterator.{YieldsList-from_slice}
+use Rattle.std.proofs.lemmas.Iterator.Search.{any_from_yields_List}
+use Rattle.std.proofs.lemmas.List.Recursion.{same_from_clauses}
+use Rattle.std.specs.List.{list_any}
+use Rattle.formula.specs.declared.entry.Entry.{Entry}
 use Rattle.formula.specs.Entries.{named_in}
-use Rattle.formula.proofs.Counts.{named_more, named_at}
 use Rattle.formula.proofs.entry.names.Goals as goal
 
-pub loop-e-preserved : goal.loop-e-preserved
-loop-e-preserved c =
-    named_more c.args.es.now c.loop-e.e-index c.args.variable c.loop-e-test.true
-    ∙ or_from _ _ c.loop-e.invariant (ne_eqb _ _ c.if-e-variable.false)
-
-pub returns-then-e-variable : goal.returns-then-e-variable
-returns-then-e-variable c = sym (ap (named_in c.args.es.now) (sym c.if-e-variable.true) ∙ named_at c.args.es.now c.loop-e.e-index c.loop-e-test.true)
-
 pub returns : goal.returns
-returns c = sym (ap (λ xs. named_in xs c.args.variable) (sym (take_all c.loop-e.e-index c.args.es.now c.loop-e-test.false)) ∙ c.loop-e.invariant)
+returns c =
+    let es = c.args.es.now in
+    any_from_yields_List (λ (e : Entry). eqb e.variable c.args.variable) _ _ _ c.any.ensures.ran (YieldsList-from_slice es cc) (λ x b q k. search (rules, tests))
+    ∙ same_from_clauses (list_any (λ (e : Entry). eqb e.variable c.args.variable)) (λ xs. named_in xs c.args.variable) (λ (e : Entry) b. eqb e.variable c.args.variable || b) refl (λ _ _. refl) (λ _ _. refl) es

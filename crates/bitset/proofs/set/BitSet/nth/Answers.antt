@@ -1,23 +1,14 @@
-use Rattle.std.proofs.Common.{◌≡◌, length, get_or, sym, refl, ap, ◌∙◌, arith}
+use Rattle.std.proofs.Common.{◌≡◌, length, get_or, sym, ap, ◌∙◌, arith}
 use Rattle.formula.specs.Occurrences.{passing}
 use Rattle.bitset.specs.Sets.{member}
-use Rattle.bitset.proofs.Passing.{passing_still, passing_yes, passing_at}
+use Rattle.formula.proofs.Passing.{passing_still, passing_yes, passing_at}
 use Rattle.bitset.proofs.set.BitSet.nth.Goals as goal
-
-pub loop-init : goal.loop-init
-loop-init c = (refl, omega arith)
-
-pub present_from-at-requires : goal.present_from-at-requires
-present_from-at-requires c = record { inside = c.loop.invariant.1; counted = c.requires.counted; left = omega (arith, c.loop.invariant.0, c.requires.inside) }
 
 pub loop-preserved : goal.loop-preserved
 loop-preserved c =
     let p = member c.args.self.now in
     let f = c.present_from-at.ensures in
     (omega (arith, passing_yes p c.present_from-at.result f.passes, passing_still p c.loop.at c.present_from-at.result f.from f.before, c.loop.invariant.0), omega (arith, f.below))
-
-pub present_from-requires : goal.present_from-requires
-present_from-requires c = record { inside = c.loop.invariant.1; counted = c.requires.counted; left = omega (arith, c.loop.invariant.0, c.loop.auto.counter-end, c.requires.inside) }
 
 pub returns : goal.returns
 returns c =

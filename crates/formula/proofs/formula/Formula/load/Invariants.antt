@@ -1,9 +1,9 @@
-use Rattle.std.proofs.Common.{◌-◌, length}
-use Rattle.formula.proofs.formula.Formula.load.Given as goal
+use Rattle.std.proofs.Common.{length}
 use Rattle.formula.proofs.Split.{Loading}
+use Rattle.formula.proofs.formula.Formula.load.Given as goal
 
-abbrev pub invariant-loop-begin : goal.invariant-loop-begin
-invariant-loop-begin l = Loading l.variables l.words l.begin l.self
+abbrev pub invariant-loop-end : goal.invariant-loop-end
+invariant-loop-end l = Loading l.variables l.words l.rest l.self
 
-abbrev pub decreases-loop-begin : goal.decreases-loop-begin
-decreases-loop-begin l = length l.words - l.begin
+abbrev pub decreases-loop-end : goal.decreases-loop-end
+decreases-loop-end l = length l.rest

@@ -1,27 +1,45 @@
-use Rattle.std.proofs.Common.{◌≡◌, ◌+◌, sym, ap, ◌∙◌, subst, arith}
-use Rattle.formula.specs.Occurrences.{passing, names_at, listed_in}
-use Rattle.formula.proofs.Lists.{Listing, listing_start, listing_room, listing_more, occurs_more}
+use Rattle.std.proofs.Common.{◌≡◌, cond, [], ◌∷◌, ◌++◌, set, sym, refl, ap, ◌∙◌, subst, append-nil, arith, lit<}
+use Rattle.formula.specs.declared.occurrences.Occurrences.{Occurrences}
+use Rattle.formula.specs.declared.span.Span.{Span}
+use Rattle.formula.specs.Entries.{named_in}
+use Rattle.formula.specs.Formulas.{clause_count}
+use Rattle.formula.specs.Occurrences.{passing, names_at}
+use Rattle.formula.proofs.Lists.{listing_room, listing_more, occurs_more}
 use Rattle.formula.proofs.occurrences.Occurrences.add_variable.Goals as goal
+use Rattle.formula.proofs.occurrences.Occurrences.add_variable.Goals.{then-names, else-names}
 
-pub loop-i-init : goal.loop-i-init
-loop-i-init c = listing_start c.args.self.now c.requires.made.1.1.rows
-
-pub keep-requires : goal.keep-requires
-keep-requires c q =
-    listing_room (names_at c.args.f.now c.args.variable) c.loop-i.i c.args.f.now.clauses c.args.self.now c.loop-i.self c.loop-i-test.true c.requires.clauses_bound c.loop-i.invariant (sym c.names.ensures ∙ q)
+pub push-requires : goal.push-requires
+push-requires c =
+    let f = c.args.f.now in
+    let named = ap (λ es. named_in es c.args.variable) (sym c.entries_of.ensures) ∙ (sym c.names.ensures ∙ c.if-names.true) in
+    (lit< tt, listing_room (names_at f c.args.variable) c.loop-i.i (clause_count f) c.args.self.now (omega (arith, c.loop-i-test.true, c.clauses-i-end.ensures)) c.requires.clauses_bound c.loop-i.self.clauses.items c.loop-i.invariant.items named)
 
 pub loop-i-preserved : goal.loop-i-preserved
 loop-i-preserved c =
-    let p = names_at c.args.f.now c.args.variable in
-    subst (Listing (passing p (c.loop-i.i + 1)) c.args.self.now) (sym (c.keep.ensures ∙ ap (listed_in c.loop-i.self c.loop-i.i) c.names.ensures))
-    (listing_more p c.loop-i.i c.args.f.now.clauses c.args.self.now c.loop-i.self c.loop-i-test.true c.requires.clauses_bound c.loop-i.invariant)
-
-pub returns : goal.returns
-returns c =
     let f = c.args.f.now in
-    let e : c.loop-i.i ≡ f.clauses = omega arith in
-    let h = subst (λ n. Listing (passing (names_at f c.args.variable) n) c.args.self.now c.loop-i.self) e c.loop-i.invariant in
+    let p = names_at f c.args.variable in
+    let i = c.loop-i.i in
+    let cs = c.loop-i.self.clauses.items in
+    let named : p i ≡ c.names.result = ap (λ es. named_in es c.args.variable) (sym c.entries_of.ensures) ∙ sym c.names.ensures in
     record {
-      occurs = occurs_more f c.args.variable c.args.self.now c.loop-i.self (omega (arith, c.requires.made.0.few_variables, c.requires.made.1.0)) c.requires.made.1.1 c.requires.clauses_bound h;
-      more = h.used;
+      same_spans = elim c.if-names.branch [
+        | then-names w ↦ ap (λ (o : Occurrences). o.spans) w.self-is ∙ c.loop-i.invariant.same_spans
+        | else-names w ↦ ap (λ (o : Occurrences). o.spans) w.self-is ∙ c.loop-i.invariant.same_spans
+      ];
+      items = listing_more p i (clause_count f) c.args.self.now (omega (arith, c.loop-i-test.true, c.clauses-i-end.ensures)) c.requires.clauses_bound cs c.loop-i.invariant.items c.if-names.self.clauses.items
+          (elim c.if-names.branch [
+            | then-names w ↦ ap (λ (o : Occurrences). o.clauses.items) w.self-is ∙ (w.push.ensures.items ∙ ap (λ b. cs ++ cond b (i ∷ []) []) (sym (named ∙ w.if-names.true)))
+            | else-names w ↦ ap (λ (o : Occurrences). o.clauses.items) w.self-is ∙ (sym (append-nil cs) ∙ ap (λ b. cs ++ cond b (i ∷ []) []) (sym (named ∙ w.if-names.false)))
+          ]);
     }
+
+pub returns-clause-occurs : goal.returns-clause-occurs
+returns-clause-occurs c =
+    let f = c.args.f.now in
+    let o = c.args.self.now in
+    let v = c.args.variable in
+    let cs = c.loop-i.self.clauses.items in
+    let s : Span = record { start = c.len-start.result; end = c.len-end.result } in
+    let i : c.loop-i.i ≡ clause_count f = omega arith in
+    let h = subst (λ n. cs ≡ o.clauses.items ++ passing (names_at f v) n) i c.loop-i.invariant.items in
+    occurs_more f v o (omega (arith, f.made.few_variables, c.requires.next.0)) c.requires.next.1 cs s h c.len-start.ensures.value c.len-end.ensures.value _ (ap (λ ss. set ss v s) c.loop-i.invariant.same_spans) refl

@@ -1,7 +1,6 @@
-use Rattle.std.proofs.Common.{◌+◌, take, sym, ap, ◌∙◌, ap₂, rules}
-use Rattle.std.proofs.lemmas.List.{take_all, length-take}
+use Rattle.std.proofs.Common.{◌+◌, take, sym, ◌∙◌, ap₂, rules}
+use Rattle.std.proofs.lemmas.List.{length-take}
 use Rattle.formula.proofs.Counts.{count_more, count_le}
-use Rattle.formula.specs.Entries.{count}
 use Rattle.table.specs.Rows.{value_at}
 use Rattle.table.proofs.table.Table.count_of.Goals as goal
 
@@ -18,6 +17,3 @@ overflow_add-n c =
 
 pub loop-e-preserved : goal.loop-e-preserved
 loop-e-preserved c = ap₂ ◌+◌ c.loop-e.invariant c.true_at-n.ensures ∙ sym (count_more (value_at c.args.self.now) c.args.es.now c.loop-e.e-index c.loop-e-test.true)
-
-pub returns : goal.returns
-returns c = c.loop-e.invariant ∙ ap (count (value_at c.args.self.now)) (take_all c.loop-e.e-index c.args.es.now c.loop-e-test.false)

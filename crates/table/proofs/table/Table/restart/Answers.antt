@@ -1,29 +1,17 @@
-use Rattle.std.proofs.Common.{◌≡◌, length, refl, ap, ◌∙◌, arith}
-use Rattle.table.proofs.Begins.{sound_begin, nothing_light, begun, counted_cleared, rows_cleared}
-use Rattle.table.specs.Rows.{cleared}
+use Rattle.std.proofs.Common.{get_or, refl, ap, ◌∙◌, arith}
+use Rattle.table.specs.Rows.{row0, weight_at}
+use Rattle.table.proofs.Begins.{no_weight, sound_begin, begun}
 use Rattle.table.proofs.table.Table.restart.Goals as goal
 
-pub level-requires : goal.level-requires
-level-requires c =
-    let f = c.args.f.now in
-    let start = c.args.start.now in
-    let u = c.reset_clauses.new.self in
-    let l : length u.rows ≡ 256 = ap length c.reset_clauses.ensures.1 ∙ c.reset_rows.ensures.0 in
-    let rs = rows_cleared start c.reset_rows.new.self u c.reset_clauses.ensures.1 c.reset_rows.ensures.1.1 in
-    let h = counted_cleared f f.clauses u c.reset_clauses.ensures.0 in (
-      c.requires.0,
-      (
-        sound_begin f start (cleared u) c.requires.0 c.requires.1.1 l rs h refl refl refl,
-        omega (arith, nothing_light f start (cleared u) c.requires.0 c.requires.1.1 l rs h refl refl refl),
-      ),
-    )
+pub level-requires-clause-sound : goal.level-requires-clause-sound
+level-requires-clause-sound c =
+    let h = c.reset_clauses.ensures.counted in
+    sound_begin c.args.f.now c.args.start.now _ c.requires (λ k l. ap (λ rs. get_or rs k row0) c.reset_clauses.ensures.rows ∙ c.reset_rows.ensures.rows k l) (record { weights = h.weights; counts = h.counts }) refl refl refl
+
+pub level-requires-clause-light : goal.level-requires-clause-light
+level-requires-clause-light c = omega (arith, no_weight c.args.f.now (weight_at c.reset_clauses.new.self) c.reset_clauses.ensures.counted.weights)
 
 pub returns : goal.returns
 returns c =
-    let f = c.args.f.now in
-    let start = c.args.start.now in
-    let u = c.reset_clauses.new.self in
-    let l : length u.rows ≡ 256 = ap length c.reset_clauses.ensures.1 ∙ c.reset_rows.ensures.0 in
-    let rs = rows_cleared start c.reset_rows.new.self u c.reset_clauses.ensures.1 c.reset_rows.ensures.1.1 in
-    let h = counted_cleared f f.clauses u c.reset_clauses.ensures.0 in
-    begun f start (cleared u) c.requires.0 c.requires.1.1 l rs h refl refl refl c.level.new.self c.level.ensures
+    let h = c.reset_clauses.ensures.counted in
+    begun c.args.f.now c.args.start.now _ c.requires (λ k l. ap (λ rs. get_or rs k row0) c.reset_clauses.ensures.rows ∙ c.reset_rows.ensures.rows k l) (record { weights = h.weights; counts = h.counts }) refl refl refl c.level.new.self c.level.ensures

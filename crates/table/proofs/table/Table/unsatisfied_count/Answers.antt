@@ -1,22 +1,13 @@
-use Rattle.std.proofs.Common.{ℕ, ◌+◌, ◌<◌, ◌≤◌, Bool, eqb, sym, ap, ◌∙◌, arith, rules}
-use Rattle.std.proofs.lemmas.Bool.{eq-eqb, ne_eqb}
-use Rattle.table.specs.Rows.{count_at}
-use Rattle.table.proofs.Passing.{passing_yes, passing_no, passing_le}
+use Rattle.std.proofs.Common.{eqb, take, ◌∙◌, rules, tests, arith}
+use Rattle.std.proofs.lemmas.Iterator.{YieldsList-from_slice}
+use Rattle.std.proofs.lemmas.Iterator.Consumers.{YieldsList-from_filter, count_from_yields_List}
+use Rattle.table.specs.declared.table.ClauseRow.{ClauseRow}
+use Rattle.table.specs.Rows.{clause0}
+use Rattle.formula.proofs.Passing.{passing-filter}
 use Rattle.table.proofs.table.Table.unsatisfied_count.Goals as goal
-use Rattle.table.proofs.table.Table.unsatisfied_count.Goals.{then-self-i-eq0, else-self-i-eq0}
 
-pub overflow_add-found : goal.overflow_add-found
-overflow_add-found c =
-    let p : ℕ → Bool = λ k. eqb (count_at c.args.self.now k) 0 in
-    let h : c.loop-i.found ≤ c.loop-i.i = omega (arith, c.loop-i.invariant, passing_le p c.loop-i.i) in
-    let l : c.loop-i.i < 1025 = omega (arith, c.requires.1) in
-    search rules
-
-pub loop-i-preserved : goal.loop-i-preserved
-loop-i-preserved c =
-    let p : ℕ → Bool = λ k. eqb (count_at c.args.self.now k) 0 in
-    let i = c.loop-i.i in
-    elim c.if-self-i-eq0.branch [
-      | then-self-i-eq0 w ↦ w.found-is ∙ (ap (λ n. n + 1) c.loop-i.invariant ∙ sym (passing_yes p i (eq-eqb (count_at c.args.self.now i) 0 w.if-self-i-eq0.true)))
-      | else-self-i-eq0 w ↦ w.found-is ∙ (c.loop-i.invariant ∙ sym (passing_no p i (ne_eqb (count_at c.args.self.now i) 0 w.if-self-i-eq0.false)))
-    ]
+pub returns : goal.returns
+returns c =
+    let cs = c.args.self.now.clauses in
+    count_from_yields_List c.filter.result c.count.result c.count.ensures.ran (YieldsList-from_filter _ (λ (r : ClauseRow). eqb r.count 0) (YieldsList-from_slice (take c.args.clauses cs) cc) c.filter.ensures.closure (λ x b q k. search (rules, tests)))
+    ∙ passing-filter (λ (r : ClauseRow). eqb r.count 0) cs clause0 c.args.clauses (omega (arith, c.args.self.now.clause_size))

@@ -1,8 +1,8 @@
 use Rattle.std.proofs.Common.{◌+◌, ◌-◌, ◌/◌, ◌^◌, ap, ◌∙◌, arith}
 use lib.Count.{count_trailing_zeros}
-use Rattle.bitset.specs.Sets.{bit_at}
+use Rattle.bitset.specs.Bits.{bit_at}
 use Rattle.bitset.proofs.Bits.{trailing, bits_from}
-use Rattle.bitset.proofs.set.lowest.Goals as goal
+use Rattle.bitset.proofs.lowest.lowest.Goals as goal
 
 pub returns-then-zeros-from : goal.returns-then-zeros-from
 returns-then-zeros-from c =

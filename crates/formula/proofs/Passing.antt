@@ -1,7 +1,8 @@
 -- The numbers that pass a test, counted one by one.
-use Rattle.std.proofs.Common.{◌≡◌, ℕ, zero, suc, ◌+◌, ◌-◌, ◌<◌, ◌≤◌, Bool, true, false, cond, [], ◌∷◌, ◌++◌, length, get_or, sym, refl, ap, ◌∙◌, ap₂, ⊎_elim, add-one, arith}
+use Rattle.std.proofs.Common.{◌≡◌, ℕ, zero, suc, ◌+◌, ◌-◌, ◌<◌, ◌≤◌, Bool, true, false, cond, List, [], ◌∷◌, ◌++◌, length, get_or, take, filter, sym, refl, ap, ◌∙◌, ap₂, ⊎_elim, add-one, arith}
 use Rattle.std.proofs.lemmas.Bool.{cases_eq}
 use Rattle.std.proofs.lemmas.List.{get_or_append_left, get_or-append_right}
+use Rattle.std.proofs.lemmas.List.Filters.{length-filter_more}
 use Rattle.formula.specs.Entries.{bit}
 use Rattle.formula.specs.Occurrences.{passing}
 use Rattle.formula.proofs.Lists.{length-passing, passing_room}
@@ -37,3 +38,27 @@ passing_at p i (suc n) l e =
     get_or_append_left (passing p n) (cond (p n) (n ∷ []) []) 0 (length (passing p i)) (passing_room p i n (omega arith) e)
     ∙ passing_at p i n (omega arith) e)
     (cases_eq i n)
+
+-- none passes between i and n
+pub passing_still : (p : ℕ → Bool) (i n : ℕ) → i ≤ n → ((j : ℕ) → i ≤ j → j < n → p j ≡ false) → length (passing p n) ≡ length (passing p i)
+passing_still p i zero l h = let e : 0 ≡ i = omega arith in ap (λ k. length (passing p k)) e
+passing_still p i (suc n) l h =
+    ⊎_elim
+    (λ (q : i ≡ suc n). ap (λ k. length (passing p k)) (sym q))
+    (λ (q : i ≡ suc n → ⊥).
+    let e : suc n ≡ n + 1 = omega arith in
+    ap (λ k. length (passing p k)) e ∙ (passing_no p n (h n (omega arith) (omega arith)) ∙ passing_still p i n (omega arith) (λ j a b. h j a (omega arith))))
+    (cases_eq i (suc n))
+
+-- what passes among the first n elements, counted by their places
+pub passing-filter : {X : Type 0} (p : X → Bool) (xs : List X) (d : X) (n : ℕ) → n ≤ length xs → length (filter p (take n xs)) ≡ length (passing (λ k. p (get_or xs k d)) n)
+passing-filter p xs d zero l = refl
+passing-filter p xs d (suc n) l =
+    ap (λ m. length (filter p (take m xs))) (sym (add-one n))
+    ∙ (length-filter_more p xs n d (omega arith)
+    ∙ (ap₂ ◌+◌ (passing-filter p xs d n (omega arith)) (one (p (get_or xs n d)))
+    ∙ (sym (passing-next (λ k. p (get_or xs k d)) n) ∙ ap (λ m. length (passing (λ k. p (get_or xs k d)) m)) (add-one n))))
+  where
+    one : (b : Bool) → cond b 1 0 ≡ bit b
+    one true = refl
+    one false = refl
