@@ -91,6 +91,7 @@ pub(crate) fn scan<P: Policy>(search: &Search, policy: &P) -> Option<usize>
     ensures is { result ≡ greedyPick (P.Policy.level policy.now) (model search.now) }
     ensures within { Within result (model search.now).variables }
 {
+    // Stays (no plainer): variables are numbers, and there is no list of them to go over.
     let mut best = None;
     for x in 0..search.variables() {
         best = better(search, policy, best, x);
@@ -115,8 +116,8 @@ pub(crate) fn top_of_clause(search: &Search, clause: usize) -> Option<usize>
     ensures within { Within result (model search.now).variables }
 {
     let mut best = None;
-    for j in 0..search.entry_count(clause) {
-        best = better_ranked(search, best, search.entry_variable(clause, j));
+    for entry in search.entries(clause) {
+        best = better_ranked(search, best, entry.variable as usize);
     }
     best
 }

@@ -7,7 +7,7 @@ use Rattle.cnf.specs.Tables.{clauses_of}
 use Rattle.formula.specs.declared.formula.Formula.{Formula}
 use Rattle.formula.specs.declared.given.Given.{Given}
 use Rattle.formula.specs.declared.occurrences.Occurrences.{Occurrences}
-use Rattle.formula.specs.Formulas.{words_of}
+use Rattle.formula.specs.Formulas.{clause_count, words_of}
 use Rattle.formula.proofs.Facts.{holds_prop, occurs_prop}
 use Rattle.table.specs.declared.table.Table.{Table}
 use Rattle.table.proofs.Facts.{sound_prop}
@@ -16,7 +16,7 @@ use Rattle.state.specs.Standing.{Kept}
 
 kept_prop : (g : Given) (f : Formula) (o : Occurrences) (t : Table) → IsProp (Kept g f o t)
 kept_prop g f o t p q =
-    let h : IsProp ((0 < f.variables) × (0 < f.clauses)) = hlevel props in
+    let h : IsProp ((0 < f.variables) × (0 < (clause_count f))) = hlevel props in
     λ i.
     record {
       some = h p.some q.some i;

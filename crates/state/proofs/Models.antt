@@ -10,7 +10,7 @@ use Rattle.formula.specs.declared.given.Given.{Given}
 use Rattle.formula.specs.declared.occurrences.Occurrences.{Occurrences}
 use Rattle.formula.specs.Clauses.{names, flip_at, sum_to, any_to}
 use Rattle.formula.specs.Entries.{count, named_in, entries_to}
-use Rattle.formula.specs.Formulas.{entries_of, words_of}
+use Rattle.formula.specs.Formulas.{clause_count, entries_of, words_of}
 use Rattle.formula.specs.Occurrences.{passing}
 use Rattle.formula.specs.Meaning.{Same}
 use Rattle.formula.proofs.Sums.{or_none, or_assoc, sum_to_same, any_to_same}
@@ -97,10 +97,10 @@ module _ (g : Given) (f : Formula) (o : Occurrences) (t : Table) (kept : Kept g 
   cs = clauses_of (words_of g)
 
   pub rows_enough : f.variables ≤ length t.rows
-  rows_enough = omega (arith, kept.holds.made.few_variables, kept.sound.sized.rows)
+  rows_enough = omega (arith, f.made.few_variables, t.size)
 
-  pub clauses_enough : f.clauses ≤ length t.clauses
-  clauses_enough = omega (arith, kept.holds.made.few_clauses, kept.sound.sized.clauses)
+  pub clauses_enough : (clause_count f) ≤ length t.clauses
+  clauses_enough = omega (arith, f.made.few_clauses, t.clause_size)
 
   pub value_is : (y : ℕ) → y < f.variables → assignment m y ≡ value_at t y
   value_is y l = column (λ (r : Row). r.value) t.rows f.variables y row0 false rows_enough l
@@ -108,34 +108,34 @@ module _ (g : Given) (f : Formula) (o : Occurrences) (t : Table) (kept : Kept g 
   pub stamp_is : (y : ℕ) → y < f.variables → stamp_of m y ≡ stamp_at t y
   stamp_is y l = column (λ (r : Row). r.stamp) t.rows f.variables y row0 0 rows_enough l
 
-  pub weight_is : (i : ℕ) → i < f.clauses → weight_of m i ≡ weight_at t i
-  weight_is i l = column (λ (r : ClauseRow). r.weight) t.clauses f.clauses i clause0 0 clauses_enough l
+  pub weight_is : (i : ℕ) → i < (clause_count f) → weight_of m i ≡ weight_at t i
+  weight_is i l = column (λ (r : ClauseRow). r.weight) t.clauses (clause_count f) i clause0 0 clauses_enough l
 
-  pub weights_length : length m.weights ≡ f.clauses
-  weights_length = column_length (λ (r : ClauseRow). r.weight) t.clauses f.clauses clauses_enough
+  pub weights_length : length m.weights ≡ (clause_count f)
+  weights_length = column_length (λ (r : ClauseRow). r.weight) t.clauses (clause_count f) clauses_enough
 
-  pub clauses_length : f.clauses ≡ length cs
+  pub clauses_length : (clause_count f) ≡ length cs
   clauses_length = kept.holds.clauses
 
-  clause_same : (i : ℕ) → i < f.clauses → Same f.variables (get_or cs i [])
+  clause_same : (i : ℕ) → i < (clause_count f) → Same f.variables (get_or cs i [])
   clause_same i l = same_meaning f.variables (get_or cs i []) (All-get_or (Clause f.variables) cs i [] (omega (arith, clauses_length)) kept.holds.each).1
 
-  entries_are : (i : ℕ) → i < f.clauses → entries_to (get_or cs i []) f.variables ≡ entries_of f i
+  entries_are : (i : ℕ) → i < (clause_count f) → entries_to (get_or cs i []) f.variables ≡ entries_of f i
   entries_are i l = sym (kept.holds.entries i (omega (arith, clauses_length)))
 
-  pub satisfied_is : (a b : Assignment) → ((y : ℕ) → y < f.variables → a y ≡ b y) → (i : ℕ) → i < f.clauses → satisfied a (get_or cs i []) ≡ not (eqb (count b (entries_of f i)) 0)
+  pub satisfied_is : (a b : Assignment) → ((y : ℕ) → y < f.variables → a y ≡ b y) → (i : ℕ) → i < (clause_count f) → satisfied a (get_or cs i []) ≡ not (eqb (count b (entries_of f i)) 0)
   satisfied_is a b h i l =
       (clause_same i l).satisfies a
-      ∙ ap (λ n. not (eqb n 0)) (ap (count a) (entries_are i l) ∙ count_agree f.variables a b (entries_of f i) h (kept.holds.made.signed i l))
+      ∙ ap (λ n. not (eqb n 0)) (ap (count a) (entries_are i l) ∙ count_agree f.variables a b (entries_of f i) h (f.made.signed i l))
 
-  pub names_is : (i : ℕ) → i < f.clauses → (x : ℕ) → names (get_or cs i []) x ≡ named_in (entries_of f i) x
+  pub names_is : (i : ℕ) → i < (clause_count f) → (x : ℕ) → names (get_or cs i []) x ≡ named_in (entries_of f i) x
   names_is i l x = sym ((clause_same i l).named x) ∙ ap (λ es. named_in es x) (entries_are i l)
 
   pub cost_at_lem : (a b : Assignment) → ((y : ℕ) → y < f.variables → a y ≡ b y) → cost_at a cs m.weights ≡ cost_in (rules_of f t) b
   cost_at_lem a b h =
       cost-sum a cs m.weights (weights_length ∙ clauses_length)
       ∙ (ap (λ n. sum_to n (λ i. cond (satisfied a (get_or cs i [])) 0 (get_or m.weights i 0))) (sym clauses_length)
-      ∙ sum_to_same f.clauses _ _ (λ i l. ap₂ (λ s w. cond s 0 w) (satisfied_is a b h i l) (weight_is i l) ∙ cond-not (eqb (count b (entries_of f i)) 0) (weight_at t i)))
+      ∙ sum_to_same (clause_count f) _ _ (λ i l. ap₂ (λ s w. cond s 0 w) (satisfied_is a b h i l) (weight_is i l) ∙ cond-not (eqb (count b (entries_of f i)) 0) (weight_at t i)))
     where
       cond-not : (s : Bool) (w : ℕ) → cond (not s) 0 w ≡ cond s w 0
       cond-not true w = refl
@@ -152,14 +152,14 @@ module _ (g : Given) (f : Formula) (o : Occurrences) (t : Table) (kept : Kept g 
   pub total_is : t.total ≡ total m
   total_is =
       kept.sound.totals
-      ∙ sym (sum_all m.weights ∙ (ap (λ n. sum_to n (λ k. get_or m.weights k 0)) weights_length ∙ sum_to_same f.clauses _ _ weight_is))
+      ∙ sym (sum_all m.weights ∙ (ap (λ n. sum_to n (λ k. get_or m.weights k 0)) weights_length ∙ sum_to_same (clause_count f) _ _ weight_is))
 
   pub near_is : (x y : ℕ) → neighbours m x y ≡ near_in (rules_of f t) x y
   near_is x y =
       ap (λ b. not (eqb x y) && b)
       (together_any cs x y
       ∙ (ap (λ n. any_to n (λ i. names (get_or cs i []) x && names (get_or cs i []) y)) (sym clauses_length)
-      ∙ any_to_same f.clauses _ _ (λ i l. ap₂ ◌&&◌ (names_is i l x) (names_is i l y))))
+      ∙ any_to_same (clause_count f) _ _ (λ i l. ap₂ ◌&&◌ (names_is i l x) (names_is i l y))))
 
   pub changed_is : (x : ℕ) → x < f.variables → (row_at t x).changed ≡ changed m x
   changed_is x l =
@@ -168,12 +168,12 @@ module _ (g : Given) (f : Formula) (o : Occurrences) (t : Table) (kept : Kept g 
       (any_to_same f.variables _ _ (λ y k. ap₂ ◌&&◌ (near_is x y) (ap₂ ltb (stamp_is x l) (stamp_is y k)))))
 
   -- a clause is unsatisfied where its true count is 0
-  pub unsatisfied_is : unsatisfied m ≡ passing (λ k. eqb (count_at t k) 0) f.clauses
+  pub unsatisfied_is : unsatisfied m ≡ passing (λ k. eqb (count_at t k) 0) (clause_count f)
   unsatisfied_is =
       ap (unsatisfied_from (assignment m) 0) (sym (take_all (length cs) cs (omega arith)))
       ∙ (unsat_upto (assignment m) cs (length cs) (omega arith)
       ∙ (ap (passing (λ k. not (satisfied (assignment m) (get_or cs k [])))) (sym clauses_length)
-      ∙ passing_same _ _ f.clauses (λ k l.
+      ∙ passing_same _ _ (clause_count f) (λ k l.
       ap not (satisfied_is (assignment m) (value_at t) value_is k l)
       ∙ (not-not (eqb (count (value_at t) (entries_of f k)) 0)
       ∙ ap (λ n. eqb n 0) (sym (kept.sound.counts k l))))))
@@ -182,5 +182,5 @@ module _ (g : Given) (f : Formula) (o : Occurrences) (t : Table) (kept : Kept g 
       not-not true = refl
       not-not false = refl
 
-  pub variables_are : (i : ℕ) → i < f.clauses → variables_in m i ≡ map (λ (e : Entry). e.variable) (entries_of f i)
+  pub variables_are : (i : ℕ) → i < (clause_count f) → variables_in m i ≡ map (λ (e : Entry). e.variable) (entries_of f i)
   variables_are i l = sym (clause_same i l).variables ∙ ap (map (λ (e : Entry). e.variable)) (entries_are i l)

@@ -7,7 +7,7 @@ use Rattle.formula.specs.declared.formula.Formula.{Formula}
 use Rattle.formula.specs.declared.given.Given.{Given}
 use Rattle.formula.specs.declared.occurrences.Occurrences.{Occurrences}
 use Rattle.formula.specs.Clauses.{sum_to}
-use Rattle.formula.specs.Formulas.{words_of, Holds}
+use Rattle.formula.specs.Formulas.{clause_count, words_of, Holds}
 use Rattle.formula.specs.Occurrences.{Occurs}
 use Rattle.formula.proofs.Sums.{sum_to_same, sum_to_add, sum_to_const}
 use Rattle.formula.proofs.Counts.{flipped_same, flipped_other}
@@ -45,13 +45,13 @@ column_is g ys n d e zs m z h =
     ext_get_or e (map g (take n ys)) zs (column_length g ys n m ∙ sym z)
     (λ k s. let s' : k < n = omega (arith, column_length g ys n m) in column g ys n k d e m s' ∙ h k s')
 
-sum_same : (f : Formula) (t u : Table) → Sound f t → Sound f u → ((k : ℕ) → k < f.clauses → weight_at u k ≡ weight_at t k) → u.total ≡ t.total
-sum_same f t u s r h = r.totals ∙ (sum_to_same f.clauses (weight_at u) (weight_at t) h ∙ sym s.totals)
+sum_same : (f : Formula) (t u : Table) → Sound f t → Sound f u → ((k : ℕ) → k < (clause_count f) → weight_at u k ≡ weight_at t k) → u.total ≡ t.total
+sum_same f t u s r h = r.totals ∙ (sum_to_same (clause_count f) (weight_at u) (weight_at t) h ∙ sym s.totals)
 
 -- a flip
 module _ (g : Given) (f : Formula) (o : Occurrences) (t u : Table) (x : ℕ) (kept : Kept g f o t) (l : x < f.variables) (ticks : t.tick < 1000000) (h : Flipped f x t u) where
   rows_now : f.variables ≤ length u.rows
-  rows_now = omega (arith, kept.holds.made.few_variables, h.sound.sized.rows)
+  rows_now = omega (arith, f.made.few_variables, u.size)
 
   pub flip_model : model_in g f u ≡ flipped x (model_in g f t)
   flip_model =
@@ -61,7 +61,7 @@ module _ (g : Given) (f : Formula) (o : Occurrences) (t u : Table) (x : ℕ) (ke
       let stamps = column_set (λ (r : Row). r.stamp) t.rows u.rows f.variables row0 0 (rows_enough g f o t kept) rows_now x (t.tick + 1) l
       (h.stamps x ∙ cond-true _ _ _ (eq-eqb x x refl))
       (λ k _ ne. h.stamps k ∙ cond-false _ _ _ (ne_eqb k x ne)) in
-      let weights = column_same (λ (r : ClauseRow). r.weight) t.clauses u.clauses f.clauses clause0 0 (clauses_enough g f o t kept) (omega (arith, kept.holds.made.few_clauses, h.sound.sized.clauses)) (λ k _. h.weights k) in
+      let weights = column_same (λ (r : ClauseRow). r.weight) t.clauses u.clauses (clause_count f) clause0 0 (clauses_enough g f o t kept) (omega (arith, f.made.few_clauses, u.clause_size)) (λ k _. h.weights k) in
       λ i. record { variables = f.variables; clauses = clauses_of (words_of g); values = values i; weights = weights i; stamps = stamps i; tick = h.ticks i }
 
   pub flip_kept : Kept g f o u
@@ -79,30 +79,30 @@ module _ (g : Given) (f : Formula) (o : Occurrences) (t u : Table) (x : ℕ) (ke
 module _ (g : Given) (f : Formula) (o : Occurrences) (u : Table) (start : List ℕ) (cs : List (List ℤ)) (is : clauses_of (words_of g) ≡ cs) (holds : Holds f.variables cs f) (occurs : Occurs f o) (n : length start ≡ f.variables) (h : Begun f start u) where
   pub begin_model : model_in g f u ≡ begun f.variables cs start
   begin_model =
-      let rows : f.variables ≤ length u.rows = omega (arith, holds.made.few_variables, h.sound.sized.rows) in
+      let rows : f.variables ≤ length u.rows = omega (arith, f.made.few_variables, u.size) in
       let values = column_is (λ (r : Row). r.value) u.rows f.variables row0 false (map (λ b. eqb b 1) start) rows (length-map start (λ b. eqb b 1) ∙ n)
       (λ k l. h.values k l ∙ sym (get_or-map (λ b. eqb b 1) start k 0 false (omega arith))) in
       let stamps = column_is (λ (r : Row). r.stamp) u.rows f.variables row0 0 (replicate f.variables 0) rows (length-replicate f.variables 0)
       (λ k l. h.stamps k l ∙ sym (get_or-replicate f.variables k 0 0 l)) in
-      let weights = column_is (λ (r : ClauseRow). r.weight) u.clauses f.clauses clause0 0 (replicate (length cs) 1) (omega (arith, holds.made.few_clauses, h.sound.sized.clauses)) (length-replicate (length cs) 1 ∙ sym holds.clauses)
+      let weights = column_is (λ (r : ClauseRow). r.weight) u.clauses (clause_count f) clause0 0 (replicate (length cs) 1) (omega (arith, f.made.few_clauses, u.clause_size)) (length-replicate (length cs) 1 ∙ sym holds.clauses)
       (λ k l. h.weights k l ∙ sym (get_or-replicate (length cs) k 1 0 (omega (arith, holds.clauses)))) in
       λ i. record { variables = f.variables; clauses = is i; values = values i; weights = weights i; stamps = stamps i; tick = h.ticks i }
 
-  pub begin_kept : (0 < f.variables) × (0 < f.clauses) → Kept g f o u
+  pub begin_kept : (0 < f.variables) × (0 < (clause_count f)) → Kept g f o u
   begin_kept some =
       record {
         some = some;
         holds = subst (λ ds. Holds f.variables ds f) (sym is) holds;
         occurs = occurs;
         sound = h.sound;
-        limited = omega (arith, h.sound.totals, sum_to_same f.clauses (weight_at u) (λ _. 1) h.weights, sum_to_const f.clauses 1, holds.made.few_clauses);
+        limited = omega (arith, h.sound.totals, sum_to_same (clause_count f) (weight_at u) (λ _. 1) h.weights, sum_to_const (clause_count f) 1, f.made.few_clauses);
         ticks = omega (arith, h.ticks);
       }
 
 -- a tick
 module _ (g : Given) (f : Formula) (o : Occurrences) (t : Table) (kept : Kept g f o t) (l : t.tick < 1000000) where
   abbrev pub later : Table
-  later = record { rows = t.rows; clauses = t.clauses; cost = t.cost; total = t.total; tick = t.tick + 1 }
+  later = record { rows = t.rows; clauses = t.clauses; cost = t.cost; total = t.total; tick = t.tick + 1; size = t.size; clause_size = t.clause_size }
 
   pub tick_kept : Kept g f o later
   tick_kept =
@@ -111,7 +111,7 @@ module _ (g : Given) (f : Formula) (o : Occurrences) (t : Table) (kept : Kept g 
         some = kept.some;
         holds = kept.holds;
         occurs = kept.occurs;
-        sound = record { sized = record { rows = s.sized.rows; clauses = s.sized.clauses }; light = s.light; counts = s.counts; scores = s.scores; costs = s.costs; totals = s.totals; marks = s.marks; stamps = λ y m. omega (arith, s.stamps y m) };
+        sound = record { light = s.light; counts = s.counts; scores = s.scores; costs = s.costs; totals = s.totals; marks = s.marks; stamps = λ y m. omega (arith, s.stamps y m) };
         limited = kept.limited;
         ticks = omega arith;
       }
@@ -157,10 +157,10 @@ module _ (g : Given) (f : Formula) (o : Occurrences) (t u : Table) (kept : Kept 
   same_length : length m.weights ≡ length cs
   same_length = weights_length g f o t kept ∙ clauses_length g f o t kept
 
-  gs_length : length gs ≡ f.clauses
+  gs_length : length gs ≡ (clause_count f)
   gs_length = length-gained (assignment m) cs m.weights same_length ∙ sym (clauses_length g f o t kept)
 
-  gs_at : (k : ℕ) → k < f.clauses → get_or gs k 0 ≡ gained t k
+  gs_at : (k : ℕ) → k < (clause_count f) → get_or gs k 0 ≡ gained t k
   gs_at k l =
       gained_at (assignment m) cs m.weights k same_length (omega (arith, clauses_length g f o t kept))
       ∙ (ap₂ (λ s w. cond s w (w + 1)) (satisfied_is g f o t kept (assignment m) (value_at t) (value_is g f o t kept) k l ∙ ap (λ n. not (eqb n 0)) (sym (kept.sound.counts k l))) (weight_is g f o t kept k l)
@@ -170,10 +170,10 @@ module _ (g : Given) (f : Formula) (o : Occurrences) (t u : Table) (kept : Kept 
       turn true w = refl
       turn false w = omega arith
 
-  gs_sum : sum gs ≡ sum_to f.clauses (gained t)
-  gs_sum = sum_all gs ∙ (ap (λ n. sum_to n (λ k. get_or gs k 0)) gs_length ∙ sum_to_same f.clauses _ _ gs_at)
+  gs_sum : sum gs ≡ sum_to (clause_count f) (gained t)
+  gs_sum = sum_all gs ∙ (ap (λ n. sum_to n (λ k. get_or gs k 0)) gs_length ∙ sum_to_same (clause_count f) _ _ gs_at)
 
-  new_at : (k : ℕ) → k < f.clauses → get_or (smoothed f.variables gs) k 0 ≡ weighed_at f t k
+  new_at : (k : ℕ) → k < (clause_count f) → get_or (smoothed f.variables gs) k 0 ≡ weighed_at f t k
   new_at k l =
       cond_at (ltb (300 * length gs) (sum gs)) (λ w. 3 * w / 10 + share_of f.variables (length gs) (sum gs)) gs k (omega (arith, gs_length))
       ∙ (ap (λ w. cond (ltb (300 * length gs) (sum gs)) (3 * w / 10 + share_of f.variables (length gs) (sum gs)) w) (gs_at k l)
@@ -181,27 +181,27 @@ module _ (g : Given) (f : Formula) (o : Occurrences) (t u : Table) (kept : Kept 
 
   pub weigh_model : model_in g f u ≡ weighed m
   weigh_model =
-      let rows : f.variables ≤ length u.rows = omega (arith, kept.holds.made.few_variables, h.sound.sized.rows) in
+      let rows : f.variables ≤ length u.rows = omega (arith, f.made.few_variables, u.size) in
       let values = column_same (λ (r : Row). r.value) t.rows u.rows f.variables row0 false (rows_enough g f o t kept) rows (λ k _. h.values k) in
       let stamps = column_same (λ (r : Row). r.stamp) t.rows u.rows f.variables row0 0 (rows_enough g f o t kept) rows (λ k _. h.stamps k) in
-      let weights = column_is (λ (r : ClauseRow). r.weight) u.clauses f.clauses clause0 0 (smoothed f.variables gs) (omega (arith, kept.holds.made.few_clauses, h.sound.sized.clauses)) (length-cond (ltb (300 * length gs) (sum gs)) (λ w. 3 * w / 10 + share_of f.variables (length gs) (sum gs)) gs ∙ gs_length)
+      let weights = column_is (λ (r : ClauseRow). r.weight) u.clauses (clause_count f) clause0 0 (smoothed f.variables gs) (omega (arith, f.made.few_clauses, u.clause_size)) (length-cond (ltb (300 * length gs) (sum gs)) (λ w. 3 * w / 10 + share_of f.variables (length gs) (sum gs)) gs ∙ gs_length)
       (λ k l. h.weights k l ∙ sym (new_at k l)) in
       λ i. record { variables = f.variables; clauses = cs; values = values i; weights = weights i; stamps = stamps i; tick = h.ticks i }
 
   -- the sum grows by at most 1 for each clause
-  pub weigh_grows : u.total ≤ t.total + f.clauses
+  pub weigh_grows : u.total ≤ t.total + (clause_count f)
   weigh_grows =
-      omega (arith, h.sound.totals, sum_to_same f.clauses (weight_at u) (weighed_at f t) h.weights, smooth_le f.variables f.clauses (gained t) (ltb (300 * f.clauses) (sum_to f.clauses (gained t))), gained_light f.clauses t, kept.sound.totals)
+      omega (arith, h.sound.totals, sum_to_same (clause_count f) (weight_at u) (weighed_at f t) h.weights, smooth_le f.variables (clause_count f) (gained t) (ltb (300 * (clause_count f)) (sum_to (clause_count f) (gained t))), gained_light (clause_count f) t, kept.sound.totals)
 
   pub weigh_kept : Paced m → t.tick < 1000000 → Kept g f o u
   weigh_kept paced l =
-      let a : f.clauses * (1 + t.tick) ≤ 1024 * 1000000 = mul-le-mul {m₁ = 1 + t.tick} {m₂ = 1000000} kept.holds.made.few_clauses (omega arith) in
-      let b : length cs * (1 + t.tick) ≡ f.clauses * (1 + t.tick) = ap (λ n. n * (1 + t.tick)) (sym (clauses_length g f o t kept)) in
+      let a : (clause_count f) * (1 + t.tick) ≤ 1024 * 1000000 = mul-le-mul {m₁ = 1 + t.tick} {m₂ = 1000000} f.made.few_clauses (omega arith) in
+      let b : length cs * (1 + t.tick) ≡ (clause_count f) * (1 + t.tick) = ap (λ n. n * (1 + t.tick)) (sym (clauses_length g f o t kept)) in
       record {
         some = kept.some;
         holds = kept.holds;
         occurs = kept.occurs;
         sound = h.sound;
-        limited = omega (arith, weigh_grows, total_is g f o t kept, paced, kept.holds.made.few_clauses);
+        limited = omega (arith, weigh_grows, total_is g f o t kept, paced, f.made.few_clauses);
         ticks = omega (arith, h.ticks);
       }

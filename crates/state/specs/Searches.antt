@@ -1,5 +1,6 @@
 -- The model of a search, and what it keeps beside that.
 use Rattle.std.specs.Prelude.{◌≡◌, ℕ, ◌<◌, nat_eq}
+use Rattle.formula.specs.Formulas.{clause_count}
 use Rattle.formula.specs.Occurrences.{passing}
 use Rattle.table.specs.Rows.{score_at, changed_at, count_at}
 use Rattle.state.specs.declared.search.Search.{Search}
@@ -16,4 +17,4 @@ pub record Exact (s : Search) : Type 0 where
   pub marks : (x : ℕ) → x < (model s).variables → changed_at s.table x ≡ changed (model s) x
   pub costs : s.table.cost ≡ cost (model s)
   pub totals : s.table.total ≡ total (model s)
-  pub lists : passing (λ k. nat_eq (count_at s.table k) 0) s.formula.clauses ≡ unsatisfied (model s)
+  pub lists : passing (λ k. nat_eq (count_at s.table k) 0) (clause_count s.formula) ≡ unsatisfied (model s)

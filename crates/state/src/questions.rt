@@ -1,9 +1,12 @@
 // What a search can be asked. Variables, clauses and entries go by their places, from 0.
-ghost use Rattle.std.specs.Prelude.{◌≡◌, ◌<◌, ◌≤◌, length, slice_index};
+ghost use Rattle.std.specs.Prelude.{◌≡◌, ◌<◌, ◌≤◌, EachIndex, length, map, slice_index, slice_index_or};
+ghost use Rattle.formula.specs.declared.entry.Entry.{Entry};
+ghost use Rattle.formula.specs.Entries.{entry0};
 ghost use Rattle.state.specs.Model.{assignment, stamp_of, weight_of, cost as costOf, score as scoreOf, total as total_of, changed as changedOf, unsatisfied, variables_in};
 ghost use Rattle.state.specs.Searches.{model};
 
 use crate::search::Search;
+use formula::entry::Entry;
 
 impl Search {
     // The number of variables.
@@ -19,7 +22,7 @@ impl Search {
         ensures is { result ≡ length (model self.now).clauses }
         ensures few { (0 < result) × (result ≤ 1024) }
     {
-        self.formula.clauses as usize
+        self.formula.clauses()
     }
 
     pub fn value(&self, x: usize) -> bool
@@ -80,7 +83,7 @@ impl Search {
     pub fn unsatisfied_count(&self) -> usize
         ensures { result ≡ length (unsatisfied (model self.now)) }
     {
-        self.table.unsatisfied_count(self.formula.clauses)
+        self.table.unsatisfied_count(self.formula.clauses())
     }
 
     // The clause at a place of the rising list of the unsatisfied ones.
@@ -89,26 +92,15 @@ impl Search {
         ensures is { result ≡ slice_index (unsatisfied (model self.now)) place }
         ensures below { result < length (model self.now).clauses }
     {
-        self.table.unsatisfied_at(self.formula.clauses, place)
+        self.table.unsatisfied_at(self.formula.clauses(), place)
     }
 
-    // How many different variables the clause names.
-    pub fn entry_count(&self, clause: usize) -> usize
+    // The entries of a clause, by rising variable: one for each that it names.
+    pub fn entries(&self, clause: usize) -> &[Entry]
         requires { clause < length (model self.now).clauses }
-        ensures { result ≡ length (variables_in (model self.now) clause) }
+        ensures variables { map (λ (e : Entry). e.variable) result.now ≡ variables_in (model self.now) clause }
+        ensures below { EachIndex result.now (λ j. (slice_index_or result.now j entry0).variable < (model self.now).variables) }
     {
-        let span = self.formula.spans[clause];
-        (span.end - span.start) as usize
-    }
-
-    // The variable at a place of the rising list of those that the clause names.
-    pub fn entry_variable(&self, clause: usize, place: usize) -> usize
-        requires clause { clause < length (model self.now).clauses }
-        requires place { place < length (variables_in (model self.now) clause) }
-        ensures is { result ≡ slice_index (variables_in (model self.now) clause) place }
-        ensures below { result < (model self.now).variables }
-    {
-        let span = self.formula.spans[clause];
-        self.formula.entries[span.start as usize + place].variable as usize
+        self.formula.entries_of(clause)
     }
 }

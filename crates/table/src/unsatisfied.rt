@@ -7,25 +7,25 @@ use crate::table::Table;
 
 impl Table {
     // How many of the first `clauses` clauses are unsatisfied.
-    pub fn unsatisfied_count(&self, clauses: u16) -> usize
+    pub fn unsatisfied_count(&self, clauses: usize) -> usize
         requires { clauses < 1025 }
         ensures { result ≡ length (passing (λ k. nat_eq (count_at self.now k) 0) clauses) }
     {
-        self.clauses[..clauses as usize]
+        self.clauses[..clauses]
             .iter()
             .filter(|row| row.count == 0)
             .count()
     }
 
     // The clause at a place of the rising list of the unsatisfied ones.
-    pub fn unsatisfied_at(&self, clauses: u16, place: usize) -> usize
+    pub fn unsatisfied_at(&self, clauses: usize, place: usize) -> usize
         requires few { clauses < 1025 }
         requires inside { place < length (passing (λ k. nat_eq (count_at self.now k) 0) clauses) }
         ensures is { result ≡ slice_index (passing (λ k. nat_eq (count_at self.now k) 0) clauses) place }
         ensures below { result < clauses }
     {
         let mut n = 0;
-        for (i, row) in self.clauses[..clauses as usize].iter().enumerate() {
+        for (i, row) in self.clauses[..clauses].iter().enumerate() {
             if row.count == 0 {
                 if n == place {
                     return i;

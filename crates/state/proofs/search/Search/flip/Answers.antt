@@ -10,7 +10,7 @@ use Rattle.state.proofs.search.Search.flip.Goals as goal
 pub flip-requires : goal.flip-requires
 flip-requires c =
     let k = keeps c.args.self.now in
-    (k.holds.made, (k.occurs, (c.requires.variable, (c.requires.tick, k.sound))))
+    record { occurs = k.occurs; x_bound = c.requires.variable; tick = c.requires.tick; sound = k.sound }
 
 pub invariant_of-self : goal.invariant_of-self
 invariant_of-self c =

@@ -5,4 +5,5 @@ use Rattle.state.proofs.search.Search.pass_tick.Goals as goal
 pub invariant_of-self : goal.invariant_of-self
 invariant_of-self c =
     let s = c.args.self.now in
-    record { kept = ∣ tick_kept s.given s.formula s.occurrences s.table (keeps s) c.requires ∣₁ }
+    let t = s.table in
+    ((t.size, (t.clause_size, tt)), (∣ tick_kept s.given s.formula s.occurrences t (keeps s) c.requires ∣₁, tt))

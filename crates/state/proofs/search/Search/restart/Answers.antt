@@ -5,11 +5,6 @@ use Rattle.state.proofs.Facts.{keeps}
 use Rattle.state.proofs.Moves.{begin_model, begin_kept}
 use Rattle.state.proofs.search.Search.restart.Goals as goal
 
-pub restart-requires : goal.restart-requires
-restart-requires c =
-    let k = keeps c.args.self.now in
-    (k.holds.made, (k.sound.sized, c.requires))
-
 pub invariant_of-self : goal.invariant_of-self
 invariant_of-self c =
     let s = c.args.self.now in

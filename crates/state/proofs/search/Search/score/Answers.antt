@@ -11,12 +11,12 @@ small_same z a b = omega (arith, ints)
 
 pub offset_bounds-self-x : goal.offset_bounds-self-x
 offset_bounds-self-x c =
-    let h : c.args.x < 256 = omega (arith, (keeps c.args.self.now).holds.made.few_variables, c.requires) in
+    let h : c.args.x < 256 = omega (arith, c.args.self.now.formula.made.few_variables, c.requires) in
     search rules
 
 pub bounds-self-x : goal.bounds-self-x
 bounds-self-x c =
-    let h : c.args.x < 256 = omega (arith, (keeps c.args.self.now).holds.made.few_variables, c.requires) in
+    let h : c.args.x < 256 = omega (arith, c.args.self.now.formula.made.few_variables, c.requires) in
     search rules
 
 pub overflow_cast-result : goal.overflow_cast-result

@@ -9,7 +9,7 @@ use Rattle.state.proofs.search.Search.weigh.Goals as goal
 pub weigh-requires : goal.weigh-requires
 weigh-requires c =
     let k = keeps c.args.self.now in
-    (k.holds.made, (k.some.1, (k.sound, omega (arith, k.limited))))
+    record { some = k.some.1; sound = k.sound; light = omega (arith, k.limited) }
 
 pub invariant_of-self : goal.invariant_of-self
 invariant_of-self c =

@@ -7,14 +7,14 @@ pub offset_bounds-self-clause : goal.offset_bounds-self-clause
 offset_bounds-self-clause c =
     let s = c.args.self.now in
     let k = keeps s in
-    let h : c.args.clause < 1024 = omega (arith, k.holds.made.few_clauses, k.holds.clauses, c.requires) in
+    let h : c.args.clause < 1024 = omega (arith, c.args.self.now.formula.made.few_clauses, k.holds.clauses, c.requires) in
     search rules
 
 pub bounds-self-clause : goal.bounds-self-clause
 bounds-self-clause c =
     let s = c.args.self.now in
     let k = keeps s in
-    let h : c.args.clause < 1024 = omega (arith, k.holds.made.few_clauses, k.holds.clauses, c.requires) in
+    let h : c.args.clause < 1024 = omega (arith, c.args.self.now.formula.made.few_clauses, k.holds.clauses, c.requires) in
     search rules
 
 pub returns : goal.returns
