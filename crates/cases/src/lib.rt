@@ -3,8 +3,7 @@
 
 ghost use Rattle.cases.specs.Examples.{Worked};
 
-pub fn examples_hold() -> u8
+pub fn examples_hold()
     ensures { Worked }
 {
-    0
 }

@@ -14,7 +14,7 @@ use engine::answers::Move;
 use engine::engine::Engine;
 use policy::admission::Cca;
 use policy::generator::Generator;
-use series::call::{Answer, Call, Part};
+use series::call::{Answer, Call, Lent, Part};
 use series::replay::replay;
 use sheet::print::print;
 use sheet::refused::refused_line;
@@ -89,9 +89,11 @@ fn play(
     let mut answers = [Ok(Answer::Done), Ok(Answer::Done)];
     let engine = replay(
         &calls,
-        words,
-        &start,
-        &[Cca],
+        Lent {
+            words,
+            starts: &start,
+            policies: &[Cca],
+        },
         &mut sources,
         trail,
         &mut answers,

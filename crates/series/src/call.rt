@@ -22,6 +22,14 @@ impl Part {
     }
 }
 
+// What the calls of a series are lent: the words and the starts that loads and restarts name parts of, and the policies that steps and runs name places of.
+#[derive_where(Clone, Copy)]
+pub struct Lent<'a, P> {
+    pub words: &'a [i32],
+    pub starts: &'a [u8],
+    pub policies: &'a [P],
+}
+
 #[derive(Clone, Copy, Debug, PartialEq, Eq)]
 pub enum Question {
     Value(usize),

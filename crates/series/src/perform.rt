@@ -2,9 +2,9 @@
 ghost use Rattle.std.specs.Prelude.{◌≡◌, ℕ, List, []};
 ghost use Rattle.engine.specs.Calls.{weigh_reply};
 ghost use Rattle.engine.specs.Engines.{held};
-ghost use Rattle.series.specs.Series.{lent, look, load_with, restart_with, step_with, run_with, given, ran_as, answered, perform as performed};
+ghost use Rattle.series.specs.Series.{lent as part_lent, look, load_with, restart_with, step_with, run_with, given, ran_as, answered, perform as performed};
 
-use crate::call::{Answer, Call, Part, Question};
+use crate::call::{Answer, Call, Lent, Part, Question};
 use cnf::refusal::{Check, Refusal};
 use engine::answers::{Move, Outcome, Stepped};
 use engine::engine::Engine;
@@ -12,28 +12,27 @@ use policy::admission::Policy;
 use policy::source::Source;
 
 // A load from parts of lent words and starts.
-fn load_from(
+fn load_from<P>(
     engine: &mut Engine,
+    lent: Lent<P>,
     variables: usize,
-    words: &[i32],
-    words_part: Part,
-    starts: &[u8],
-    start_part: Part,
+    words: Part,
+    start: Part,
 ) -> Result<Answer, Refusal>
-    ensures reply { result ≡ (load_with {Σ = ℕ} variables (lent words.now words_part) (lent starts.now start_part) (held engine.old) [] []).reply }
-    ensures model { held engine.new ≡ (load_with {Σ = ℕ} variables (lent words.now words_part) (lent starts.now start_part) (held engine.old) [] []).model }
+    ensures reply { result ≡ (load_with {Σ = ℕ} variables (part_lent lent.entry.words.now words) (part_lent lent.entry.starts.now start) (held engine.old) [] []).reply }
+    ensures model { held engine.new ≡ (load_with {Σ = ℕ} variables (part_lent lent.entry.words.now words) (part_lent lent.entry.starts.now start) (held engine.old) [] []).model }
 {
-    let words = words_part.of(words)?;
-    let start = start_part.of(starts)?;
+    let words = words.of(lent.words)?;
+    let start = start.of(lent.starts)?;
     done(engine.load(variables, words, start))
 }
 
 // A restart from a part of lent starts.
-fn restart_from(engine: &mut Engine, starts: &[u8], part: Part) -> Result<Answer, Refusal>
-    ensures reply { result ≡ (restart_with {Σ = ℕ} (lent starts.now part) (held engine.old) [] []).reply }
-    ensures model { held engine.new ≡ (restart_with {Σ = ℕ} (lent starts.now part) (held engine.old) [] []).model }
+fn restart_from<P>(engine: &mut Engine, lent: Lent<P>, start: Part) -> Result<Answer, Refusal>
+    ensures reply { result ≡ (restart_with {Σ = ℕ} (part_lent lent.entry.starts.now start) (held engine.old) [] []).reply }
+    ensures model { held engine.new ≡ (restart_with {Σ = ℕ} (part_lent lent.entry.starts.now start) (held engine.old) [] []).model }
 {
-    let start = part.of(starts)?;
+    let start = start.of(lent.starts)?;
     done(engine.restart(start))
 }
 
@@ -65,16 +64,16 @@ fn done(res: Result<(), Refusal>) -> Result<Answer, Refusal>
 // Stays (proof): the source by a test and an index. Where get_mut finds none, the proof has lost that the sources are as they were.
 fn step_with<P: Policy, S: Source>(
     engine: &mut Engine,
-    policies: &[P],
+    lent: Lent<P>,
     sources: &mut [S],
     policy: usize,
     source: usize,
 ) -> Result<Answer, Refusal>
-    ensures reply { result ≡ (step_with P.Policy.level S.Source.meaning (look policies.now policy) (look sources.old source) source (held engine.old) sources.old []).reply }
-    ensures model { held engine.new ≡ (step_with P.Policy.level S.Source.meaning (look policies.now policy) (look sources.old source) source (held engine.old) sources.old []).model }
-    ensures sources { sources.new ≡ (step_with P.Policy.level S.Source.meaning (look policies.now policy) (look sources.old source) source (held engine.old) sources.old []).sources }
+    ensures reply { result ≡ (step_with P.Policy.level S.Source.meaning (look lent.entry.policies.now policy) (look sources.old source) source (held engine.old) sources.old []).reply }
+    ensures model { held engine.new ≡ (step_with P.Policy.level S.Source.meaning (look lent.entry.policies.now policy) (look sources.old source) source (held engine.old) sources.old []).model }
+    ensures sources { sources.new ≡ (step_with P.Policy.level S.Source.meaning (look lent.entry.policies.now policy) (look sources.old source) source (held engine.old) sources.old []).sources }
 {
-    let policy = policies.get(policy).ok_or(Check::InRange.at(0))?;
+    let policy = lent.policies.get(policy).ok_or(Check::InRange.at(0))?;
     if source >= sources.len() {
         return Err(Check::InRange.at(0));
     }
@@ -86,19 +85,19 @@ fn step_with<P: Policy, S: Source>(
 // A run with one of the lent policies and one of the lent sources.
 fn run_with<P: Policy, S: Source>(
     engine: &mut Engine,
-    policies: &[P],
+    lent: Lent<P>,
     sources: &mut [S],
     trail: &mut [Move],
     policy: usize,
     source: usize,
     budget: usize,
 ) -> Result<Answer, Refusal>
-    ensures reply { result ≡ (run_with P.Policy.level S.Source.meaning (look policies.now policy) (look sources.old source) source budget (held engine.old) sources.old trail.old).reply }
-    ensures model { held engine.new ≡ (run_with P.Policy.level S.Source.meaning (look policies.now policy) (look sources.old source) source budget (held engine.old) sources.old trail.old).model }
-    ensures sources { sources.new ≡ (run_with P.Policy.level S.Source.meaning (look policies.now policy) (look sources.old source) source budget (held engine.old) sources.old trail.old).sources }
-    ensures trail { trail.new ≡ (run_with P.Policy.level S.Source.meaning (look policies.now policy) (look sources.old source) source budget (held engine.old) sources.old trail.old).trail }
+    ensures reply { result ≡ (run_with P.Policy.level S.Source.meaning (look lent.entry.policies.now policy) (look sources.old source) source budget (held engine.old) sources.old trail.old).reply }
+    ensures model { held engine.new ≡ (run_with P.Policy.level S.Source.meaning (look lent.entry.policies.now policy) (look sources.old source) source budget (held engine.old) sources.old trail.old).model }
+    ensures sources { sources.new ≡ (run_with P.Policy.level S.Source.meaning (look lent.entry.policies.now policy) (look sources.old source) source budget (held engine.old) sources.old trail.old).sources }
+    ensures trail { trail.new ≡ (run_with P.Policy.level S.Source.meaning (look lent.entry.policies.now policy) (look sources.old source) source budget (held engine.old) sources.old trail.old).trail }
 {
-    let policy = policies.get(policy).ok_or(Check::InRange.at(0))?;
+    let policy = lent.policies.get(policy).ok_or(Check::InRange.at(0))?;
     if source >= sources.len() {
         return Err(Check::InRange.at(0));
     }
@@ -118,32 +117,30 @@ fn weigh_once(engine: &mut Engine) -> Result<Answer, Refusal>
 pub fn perform<P: Policy, S: Source>(
     engine: &mut Engine,
     call: Call,
-    words: &[i32],
-    starts: &[u8],
-    policies: &[P],
+    lent: Lent<P>,
     sources: &mut [S],
     trail: &mut [Move],
 ) -> Result<Answer, Refusal>
-    ensures reply { result ≡ (performed P.Policy.level S.Source.meaning words.now starts.now policies.now call (held engine.old) sources.old trail.old).reply }
-    ensures model { held engine.new ≡ (performed P.Policy.level S.Source.meaning words.now starts.now policies.now call (held engine.old) sources.old trail.old).model }
-    ensures sources { sources.new ≡ (performed P.Policy.level S.Source.meaning words.now starts.now policies.now call (held engine.old) sources.old trail.old).sources }
-    ensures trail { trail.new ≡ (performed P.Policy.level S.Source.meaning words.now starts.now policies.now call (held engine.old) sources.old trail.old).trail }
+    ensures reply { result ≡ (performed P.Policy.level S.Source.meaning lent.entry.words.now lent.entry.starts.now lent.entry.policies.now call (held engine.old) sources.old trail.old).reply }
+    ensures model { held engine.new ≡ (performed P.Policy.level S.Source.meaning lent.entry.words.now lent.entry.starts.now lent.entry.policies.now call (held engine.old) sources.old trail.old).model }
+    ensures sources { sources.new ≡ (performed P.Policy.level S.Source.meaning lent.entry.words.now lent.entry.starts.now lent.entry.policies.now call (held engine.old) sources.old trail.old).sources }
+    ensures trail { trail.new ≡ (performed P.Policy.level S.Source.meaning lent.entry.words.now lent.entry.starts.now lent.entry.policies.now call (held engine.old) sources.old trail.old).trail }
 {
     match call {
         Call::Load {
             variables,
-            words: part,
+            words,
             start,
-        } => load_from(engine, variables, words, part, starts, start),
-        Call::Restart { start } => restart_from(engine, starts, start),
+        } => load_from(engine, lent, variables, words, start),
+        Call::Restart { start } => restart_from(engine, lent, start),
         Call::Flip { variable } => done(engine.flip(variable)),
         Call::Weigh => weigh_once(engine),
-        Call::Step { policy, source } => step_with(engine, policies, sources, policy, source),
+        Call::Step { policy, source } => step_with(engine, lent, sources, policy, source),
         Call::Run {
             policy,
             source,
             budget,
-        } => run_with(engine, policies, sources, trail, policy, source, budget),
+        } => run_with(engine, lent, sources, trail, policy, source, budget),
         Call::Ask { question } => ask(engine, question),
     }
 }

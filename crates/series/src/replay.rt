@@ -3,7 +3,7 @@ ghost use Rattle.std.specs.Prelude.{◌≡◌, length};
 ghost use Rattle.engine.specs.Engines.{held};
 ghost use Rattle.series.specs.Promises.{series, GivesWhatTheCallsGive, MakesItsHistory, EnginesAreExact, LawsOfSearch};
 
-use crate::call::{Answer, Call};
+use crate::call::{Answer, Call, Lent};
 use crate::perform::perform;
 use cnf::refusal::Refusal;
 use engine::answers::Move;
@@ -14,15 +14,13 @@ use policy::source::Source;
 // Goes through the calls in their order, as many as there are places for their answers, and gives the engine then. Every call is lent the words, the starts and the trail, and each step or run one of the policies and one of the sources.
 pub fn replay<P: Policy, S: Source>(
     calls: &[Call],
-    words: &[i32],
-    starts: &[u8],
-    policies: &[P],
+    lent: Lent<P>,
     sources: &mut [S],
     trail: &mut [Move],
     answers: &mut [Result<Answer, Refusal>],
 ) -> Engine
-    ensures gives { GivesWhatTheCallsGive (series P.Policy.level S.Source.meaning words.now starts.now policies.now calls.now sources.old trail.old (length answers.old)) (held result) sources.new trail.new answers.old answers.new }
-    ensures history { MakesItsHistory (series P.Policy.level S.Source.meaning words.now starts.now policies.now calls.now sources.old trail.old (length answers.old)).history (held result) }
+    ensures gives { GivesWhatTheCallsGive (series P.Policy.level S.Source.meaning lent.entry.words.now lent.entry.starts.now lent.entry.policies.now calls.now sources.old trail.old (length answers.old)) (held result) sources.new trail.new answers.old answers.new }
+    ensures history { MakesItsHistory (series P.Policy.level S.Source.meaning lent.entry.words.now lent.entry.starts.now lent.entry.policies.now calls.now sources.old trail.old (length answers.old)).history (held result) }
     ensures exact { EnginesAreExact }
     ensures laws { LawsOfSearch S }
 {
@@ -31,7 +29,7 @@ pub fn replay<P: Policy, S: Source>(
         let Some(call) = calls.get(i) else {
             break;
         };
-        *answer = perform(&mut engine, *call, words, starts, policies, sources, trail);
+        *answer = perform(&mut engine, *call, lent, sources, trail);
     }
     engine
 }

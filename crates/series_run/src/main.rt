@@ -6,7 +6,7 @@ use engine::answers::Move;
 use policy::admission::{Cca, Descent};
 use policy::any::AnyPolicy;
 use policy::recorded::Recorded;
-use series::call::{Answer, Call, Part, Question};
+use series::call::{Answer, Call, Lent, Part, Question};
 use series::replay::replay;
 use std::io;
 
@@ -91,9 +91,11 @@ fn main(rt: HostRuntime) -> io::Result<()> {
     let mut answers = vec![in rt.alloc(); Ok(Answer::Done); CALLS]?;
     let engine = replay(
         &series(),
-        &words,
-        &[0, 0],
-        &policies,
+        Lent {
+            words: &words,
+            starts: &[0, 0],
+            policies: &policies,
+        },
         &mut sources,
         &mut trail,
         &mut answers,

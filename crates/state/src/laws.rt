@@ -3,15 +3,13 @@ ghost use Rattle.state.specs.Examples.{Worked};
 ghost use Rattle.state.specs.Theorems.{Laws as TheLaws};
 
 // How flips, scores, costs and weights hang together.
-pub fn laws_hold() -> u8
+pub fn laws_hold()
     ensures { TheLaws }
 {
-    0
 }
 
 // Examples that were worked out by hand.
-pub fn examples_hold() -> u8
+pub fn examples_hold()
     ensures { Worked }
 {
-    0
 }

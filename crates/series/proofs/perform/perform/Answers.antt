@@ -13,8 +13,8 @@ returns-in-Load g c =
     let o = held c.args.engine.now in
     let ss = c.args.sources.now in
     let trail = c.args.trail.now in
-    let e = ap (λ k. performed lv u c.args.words.now c.args.starts.now c.args.policies.now k o ss trail) c.in-Load.is in
-    let a = load_alike o ss trail c.in-Load.variables (lent c.args.words.now c.in-Load.part) (lent c.args.starts.now c.in-Load.start) in
+    let e = ap (λ k. performed lv u c.args.lent.words.now c.args.lent.starts.now c.args.lent.policies.now k o ss trail) c.in-Load.is in
+    let a = load_alike o ss trail c.in-Load.variables (lent c.args.lent.words.now c.in-Load.words) (lent c.args.lent.starts.now c.in-Load.start) in
     record { reply = c.load_from.ensures.reply ∙ a.reply ∙ sym (ap (λ p. p.reply) e); model = c.load_from.ensures.model ∙ a.model ∙ sym (ap (λ p. p.model) e); sources = a.sources ∙ sym (ap (λ p. p.sources) e); trail = a.records ∙ sym (ap (λ p. p.trail) e) }
 
 pub returns-in-Restart : goal.returns-in-Restart
@@ -25,8 +25,8 @@ returns-in-Restart g c =
     let o = held c.args.engine.now in
     let ss = c.args.sources.now in
     let trail = c.args.trail.now in
-    let e = ap (λ k. performed lv u c.args.words.now c.args.starts.now c.args.policies.now k o ss trail) c.in-Restart.is in
-    let a = restart_alike o ss trail (lent c.args.starts.now c.in-Restart.start) in
+    let e = ap (λ k. performed lv u c.args.lent.words.now c.args.lent.starts.now c.args.lent.policies.now k o ss trail) c.in-Restart.is in
+    let a = restart_alike o ss trail (lent c.args.lent.starts.now c.in-Restart.start) in
     record { reply = c.restart_from.ensures.reply ∙ a.reply ∙ sym (ap (λ p. p.reply) e); model = c.restart_from.ensures.model ∙ a.model ∙ sym (ap (λ p. p.model) e); sources = a.sources ∙ sym (ap (λ p. p.sources) e); trail = a.records ∙ sym (ap (λ p. p.trail) e) }
 
 pub returns-in-Flip : goal.returns-in-Flip
@@ -37,7 +37,7 @@ returns-in-Flip g c =
     let o = held c.args.engine.now in
     let ss = c.args.sources.now in
     let trail = c.args.trail.now in
-    let e = ap (λ k. performed lv u c.args.words.now c.args.starts.now c.args.policies.now k o ss trail) c.in-Flip.is in
+    let e = ap (λ k. performed lv u c.args.lent.words.now c.args.lent.starts.now c.args.lent.policies.now k o ss trail) c.in-Flip.is in
     record { reply = c.done.ensures ∙ ap (given (λ _. answer.Done)) c.flip.ensures.answer ∙ sym (ap (λ p. p.reply) e); model = c.flip.ensures.model ∙ sym (ap (λ p. p.model) e); sources = sym (ap (λ p. p.sources) e); trail = sym (ap (λ p. p.trail) e) }
 
 pub returns-in-Weigh : goal.returns-in-Weigh
@@ -48,7 +48,7 @@ returns-in-Weigh g c =
     let o = held c.args.engine.now in
     let ss = c.args.sources.now in
     let trail = c.args.trail.now in
-    let e = ap (λ k. performed lv u c.args.words.now c.args.starts.now c.args.policies.now k o ss trail) c.in-Weigh.is in
+    let e = ap (λ k. performed lv u c.args.lent.words.now c.args.lent.starts.now c.args.lent.policies.now k o ss trail) c.in-Weigh.is in
     record { reply = c.weigh_once.ensures.reply ∙ sym (ap (λ p. p.reply) e); model = c.weigh_once.ensures.model ∙ sym (ap (λ p. p.model) e); sources = sym (ap (λ p. p.sources) e); trail = sym (ap (λ p. p.trail) e) }
 
 pub returns-in-Step : goal.returns-in-Step
@@ -59,8 +59,8 @@ returns-in-Step g c =
     let o = held c.args.engine.now in
     let ss = c.args.sources.now in
     let trail = c.args.trail.now in
-    let e = ap (λ k. performed lv u c.args.words.now c.args.starts.now c.args.policies.now k o ss trail) c.in-Step.is in
-    let a = step_untrailed lv u (look c.args.policies.now c.in-Step.policy) (look ss c.in-Step.source) c.in-Step.source o ss trail in
+    let e = ap (λ k. performed lv u c.args.lent.words.now c.args.lent.starts.now c.args.lent.policies.now k o ss trail) c.in-Step.is in
+    let a = step_untrailed lv u (look c.args.lent.policies.now c.in-Step.policy) (look ss c.in-Step.source) c.in-Step.source o ss trail in
     record { reply = c.step_with.ensures.reply ∙ a.reply ∙ sym (ap (λ p. p.reply) e); model = c.step_with.ensures.model ∙ a.model ∙ sym (ap (λ p. p.model) e); sources = c.step_with.ensures.sources ∙ a.sources ∙ sym (ap (λ p. p.sources) e); trail = a.records ∙ sym (ap (λ p. p.trail) e) }
 
 pub returns-in-Run : goal.returns-in-Run
@@ -71,7 +71,7 @@ returns-in-Run g c =
     let o = held c.args.engine.now in
     let ss = c.args.sources.now in
     let trail = c.args.trail.now in
-    let e = ap (λ k. performed lv u c.args.words.now c.args.starts.now c.args.policies.now k o ss trail) c.in-Run.is in
+    let e = ap (λ k. performed lv u c.args.lent.words.now c.args.lent.starts.now c.args.lent.policies.now k o ss trail) c.in-Run.is in
     record { reply = c.run_with.ensures.reply ∙ sym (ap (λ p. p.reply) e); model = c.run_with.ensures.model ∙ sym (ap (λ p. p.model) e); sources = c.run_with.ensures.sources ∙ sym (ap (λ p. p.sources) e); trail = c.run_with.ensures.trail ∙ sym (ap (λ p. p.trail) e) }
 
 pub returns-in-Ask : goal.returns-in-Ask
@@ -82,5 +82,5 @@ returns-in-Ask g c =
     let o = held c.args.engine.now in
     let ss = c.args.sources.now in
     let trail = c.args.trail.now in
-    let e = ap (λ k. performed lv u c.args.words.now c.args.starts.now c.args.policies.now k o ss trail) c.in-Ask.is in
+    let e = ap (λ k. performed lv u c.args.lent.words.now c.args.lent.starts.now c.args.lent.policies.now k o ss trail) c.in-Ask.is in
     record { reply = c.ask.ensures ∙ sym (ap (λ p. p.reply) e); model = sym (ap (λ p. p.model) e); sources = sym (ap (λ p. p.sources) e); trail = sym (ap (λ p. p.trail) e) }
