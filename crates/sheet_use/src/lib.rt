@@ -1,4 +1,5 @@
 // A sheet written call by call, as a program outside would.
+// Stays (rule): a table is handed over as the number of its variables and a lent slice of words.
 #![tactic(auto)]
 
 ghost use Rattle.std.specs.Prelude.{◌≡◌};
