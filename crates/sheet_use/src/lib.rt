@@ -9,6 +9,7 @@ ghost use Rattle.sheet_use.specs.Uses.{filled, torn};
 use cnf::refusal::Refusal;
 use sheet::sheet::{Effort, Sheet};
 
+// Stays (no plainer): the calls one after another are what a program outside writes, and they show when a sheet may be dropped.
 // The sheet of a run that found the assignment in so many steps and dives, with all its values.
 pub fn found(
     effort: Effort,
