@@ -1,9 +1,9 @@
 -- How the lines of a head step.
-use Rattle.std.proofs.Common.{◌≡◌, ℕ, ◌+◌, ◌-◌, ◌<◌, ◌≤◌, Bool, true, false, cond, not, ◌&&◌, eqb, List, [], ◌∷◌, length, get_or, take, drop, Some, None, Option, sym, refl, ap, ◌∙◌, true≢false, one-add, arith}
+use Rattle.std.proofs.Common.{min, ⊎_elim, ◌≡◌, ℕ, ◌+◌, ◌-◌, ◌<◌, ◌≤◌, Bool, true, false, cond, not, ◌&&◌, eqb, List, [], ◌∷◌, length, get_or, take, drop, Some, None, Option, sym, refl, ap, ◌∙◌, true≢false, one-add, arith}
 use Rattle.std.specs.List.{prefix_len}
 use Rattle.std.proofs.lemmas.List.{at_drop_more, at_drop_all, drop-drop, length-drop, take_all}
 use Rattle.std.proofs.lemmas.List.Sums.{prefix_len-le-length}
-use Rattle.std.proofs.lemmas.Bool.{cond-true, cond-false, eq-eqb, ne_eqb, not_from_true, not_from_false, and_parts, and_from, le-ltb, cond_both}
+use Rattle.std.proofs.lemmas.Bool.{cases_lt, cond-true, cond-false, eq-eqb, ne_eqb, not_from_true, not_from_false, and_parts, and_from, le-ltb, cond_both}
 use Rattle.words.specs.Words.{Token, tokens, Said, word, end, said_of, said_before}
 use Rattle.words.specs.Readers.{Honest}
 use Rattle.dimacs.specs.Heads.{head_from, in_line, line_end, is_p, is_cnf, said_p, problem_line, problem_of, head_of, line_tokens, head_read}
@@ -30,6 +30,14 @@ in_comment p (b ∷ l) = in_comment_by (in_line b) p b l refl (in_comment (p + 1
 -- a text from a place on
 pub rest_is : (bs : List ℕ) (p : ℕ) → take (length bs - p) (drop p bs) ≡ drop p bs
 rest_is bs p = take_all (length bs - p) (drop p bs) (omega (arith, length-drop p bs))
+
+-- a reader that goes on behind the end of a text has no words left
+pub tokens_at : (bs : List ℕ) (p : ℕ) → tokens (min p (length bs)) (drop (min p (length bs)) bs) ≡ tokens p (drop p bs)
+tokens_at bs p =
+    ⊎_elim
+    (λ l. ap (λ n. tokens n (drop n bs)) (omega arith))
+    (λ g. at_drop_all (tokens (min p (length bs))) bs (min p (length bs)) (omega arith) ∙ sym (at_drop_all (tokens p) bs p g))
+    (cases_lt p (length bs))
 
 pub line_end_within : (bs : List ℕ) (p : ℕ) → p ≤ length bs → line_end bs p ≤ length bs
 line_end_within bs p h = omega (arith, prefix_len-le-length in_line (drop p bs), length-drop p bs)

@@ -1,4 +1,5 @@
 // The clauses of a text, word by word.
+// Stays (no plainer): a tally's bound and its head are asked of three functions; a struct of both would be made anew at each word.
 ghost use Rattle.std.specs.Prelude.{◌≡◌, ◌≤◌, ◌++◌, length, drop};
 ghost use Rattle.cnf.specs.Scans.{no_words};
 ghost use Rattle.words.specs.Words.{said, tokens};
@@ -57,7 +58,7 @@ fn finish(tally: Tally, head: Head, place: usize) -> Result<Tally, ClauseFault>
 
 // The tally of the words behind a text's head, or the first fault.
 pub(crate) fn check_clauses(text: &[u8], head: Head) -> Result<Tally, ClauseFault>
-    requires { (head.end ≤ length text.now) × (head.clauses ≤ 1024) }
+    requires { head.clauses ≤ 1024 }
     ensures { result ≡ clauses_from head.variables head.clauses (length text.now) no_words (tokens head.end (drop head.end text.now)) }
 {
     let mut reader = Reader::at(text, head.end);
@@ -70,7 +71,7 @@ pub(crate) fn check_clauses(text: &[u8], head: Head) -> Result<Tally, ClauseFaul
 
 // Writes the numbers from a place of the text on to the front of the words table.
 pub(crate) fn fill(text: &[u8], from: usize, words: &mut [i32])
-    requires { (from ≤ length text.now) × (length (numbers_of (tokens from (drop from text.now))) ≤ length words.old) }
+    requires { length (numbers_of (tokens from (drop from text.now))) ≤ length words.old }
     ensures { words.new ≡ numbers_of (tokens from (drop from text.now)) ++ drop (length (numbers_of (tokens from (drop from text.now)))) words.old }
 {
     let mut reader = Reader::at(text, from);

@@ -92,7 +92,6 @@ fn is_problem_line(
 
 // The two numbers of the problem line that begins at `start` and is the last line of the bytes.
 fn problem_words<'a>(line: &'a [u8], start: usize) -> Option<(Word<'a>, Word<'a>)>
-    requires { start ≤ length line.now }
     ensures { said_pair result ≡ problem_of start (tokens start (drop start line.now)) }
 {
     let mut reader = Reader::at(line, start);

@@ -19,6 +19,7 @@ pub struct Problem {
 }
 
 // Reads in two passes, so that the words table is written only when nothing is refused.
+#[tactic(auto, using(crate::proofs::RoundTrip::writes_back, crate::proofs::Accepts::reads_the_grammar, crate::proofs::FirstFaults::refuses_the_first))]
 pub fn read(text: &[u8], words: &mut [i32]) -> Result<Problem, HeadFault>
     ensures answer { result ≡ read_answer text.now (length words.old) }
     ensures table { words.new ≡ read_table text.now words.old }

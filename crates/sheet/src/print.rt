@@ -31,36 +31,40 @@ fn values_width(assignment: &[u8]) -> usize
     width
 }
 
-// Stays (no plainer): the flag decides the verdict's line too, so the values in an Option would tell it twice.
-// How many bytes the line of the values takes, if there is one.
-fn line_width(satisfied: bool, assignment: &[u8]) -> usize
-    requires { length assignment.now ≤ 256 }
-    ensures { result ≡ length (value_part satisfied assignment.now) }
-{
-    if satisfied {
-        4 + values_width(assignment)
-    } else {
-        0
-    }
+// What a sheet tells of a table: whether the assignment satisfies every clause, and the assignment.
+#[derive(Clone, Copy)]
+struct Outcome<'a> {
+    satisfied: bool,
+    assignment: &'a [u8],
+    ghost few: { length assignment.now ≤ 256 },
 }
 
-// Whether a whole sheet takes at most so many bytes.
-fn sheet_fits(effort: Effort, satisfied: bool, assignment: &[u8], room: usize) -> bool
-    requires { length assignment.now ≤ 256 }
-    ensures { result ≡ nat_le (length (sheet_text effort.steps effort.dives satisfied assignment.now)) room }
-{
-    let line = line_width(satisfied, assignment);
-    if line > room {
-        return false;
+impl<'a> Outcome<'a> {
+    // How many bytes the line of the values takes, if there is one.
+    fn line_width(&self) -> usize
+        ensures { result ≡ length (value_part self.now.satisfied self.now.assignment.now) }
+    {
+        if self.satisfied {
+            4 + values_width(self.assignment)
+        } else {
+            0
+        }
     }
-    head_line(effort, satisfied).fits(room - line)
-}
 
-// The values that a sheet takes.
-fn due(satisfied: bool, assignment: &[u8]) -> &[u8]
-    ensures { result.now ≡ due_of satisfied assignment.now }
-{
-    if satisfied { assignment } else { b"" }
+    // Whether a whole sheet takes at most so many bytes.
+    fn fits(&self, effort: Effort, room: usize) -> bool
+        ensures { result ≡ nat_le (length (sheet_text effort.steps effort.dives self.now.satisfied self.now.assignment.now)) room }
+    {
+        let line = self.line_width();
+        line <= room && head_line(effort, self.satisfied).fits(room - line)
+    }
+
+    // The values that a sheet takes.
+    fn due(&self) -> &'a [u8]
+        ensures { result.now ≡ due_of self.now.satisfied self.now.assignment.now }
+    {
+        if self.satisfied { self.assignment } else { b"" }
+    }
 }
 
 // Adds the values and closes the sheet; tears it where one of these is refused.
@@ -75,6 +79,7 @@ fn fill(sheet: Sheet, values: &[u8], out: &mut [u8]) -> Result<usize, Refusal>
     sheet.close_or_tear(out)
 }
 
+// Stays (rule): a table is handed over as the number of its variables and a lent slice of words.
 // Writes a whole sheet, or nothing where it does not fit, and gives the number of bytes.
 pub fn print(
     effort: Effort,
@@ -88,9 +93,13 @@ pub fn print(
     ensures series { SeriesLeavesText effort.steps effort.dives variables words.now assignment.now out.old }
 {
     let satisfied = table::check(variables, words, assignment)?.is_none();
-    if !sheet_fits(effort, satisfied, assignment, out.len()) {
+    let outcome = Outcome {
+        satisfied,
+        assignment,
+    };
+    if !outcome.fits(effort, out.len()) {
         return Err(Check::BytesRoom.at(0));
     }
     let sheet = Sheet::begin(effort, variables, words, assignment, out)?;
-    fill(sheet, due(satisfied, assignment), out)
+    fill(sheet, outcome.due(), out)
 }

@@ -1,4 +1,5 @@
 // A sheet written call by call, as a program outside would.
+// Stays (rule): a table is handed over as the number of its variables and a lent slice of words.
 #![tactic(auto)]
 
 ghost use Rattle.std.specs.Prelude.{◌≡◌};
@@ -8,6 +9,7 @@ ghost use Rattle.sheet_use.specs.Uses.{filled, torn};
 use cnf::refusal::Refusal;
 use sheet::sheet::{Effort, Sheet};
 
+// Stays (no plainer): the calls one after another are what a program outside writes, and they show when a sheet may be dropped.
 // The sheet of a run that found the assignment in so many steps and dives, with all its values.
 pub fn found(
     effort: Effort,

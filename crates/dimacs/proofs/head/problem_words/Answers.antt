@@ -1,17 +1,17 @@
-use Rattle.std.proofs.Common.{◌≡◌, Bool, true, false, drop, Some, None, sym, ap, ◌∙◌, arith}
+use Rattle.std.proofs.Common.{◌≡◌, Bool, true, false, drop, Some, None, sym, ap, ◌∙◌}
 use Rattle.words.specs.Words.{said, tokens, said_before}
 use Rattle.words.specs.Readers.{left}
 use Rattle.dimacs.specs.Heads.{problem_line, problem_of}
-use Rattle.dimacs.proofs.Heads.{problem_yes, problem_no}
+use Rattle.dimacs.proofs.Heads.{tokens_at, problem_yes, problem_no}
 use Rattle.dimacs.proofs.head.problem_words.Goals as goal
 use Rattle.dimacs.proofs.head.problem_words.Goals.{After-next_word-more}
 
 -- the words of the line are those that the reader said, and what follows them
 words : (c : After-next_word-more) → said_before (said c.next_word-problem.result) (said_before (said c.next_word-form.result) (said_before (said c.next_word-variables.result) (said_before (said c.next_word-clauses.result) (said_before (said c.next_word-more.result) (left c.next_word-more.new.self))))) ≡ tokens c.args.start (drop c.args.start c.args.line.now)
 words c =
-    let p : c.args.start ≡ c.at-reader.result.pos = omega arith in
     sym (
-    ap (λ n. tokens n (drop n c.args.line.now)) p
+    sym (tokens_at c.args.line.now c.args.start)
+    ∙ ap (λ n. tokens n (drop n c.args.line.now)) (sym c.at-reader.ensures.0)
     ∙ ap (λ t. tokens c.at-reader.result.pos (drop c.at-reader.result.pos t.now)) (sym c.at-reader.ensures.1)
     ∙ c.next_word-problem.ensures.met.words
     ∙ ap (said_before _) (c.next_word-form.ensures.met.words ∙ ap (said_before _) (c.next_word-variables.ensures.met.words ∙ ap (said_before _) (c.next_word-clauses.ensures.met.words ∙ ap (said_before _) c.next_word-more.ensures.met.words)))

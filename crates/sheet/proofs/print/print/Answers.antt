@@ -18,10 +18,10 @@ says c = said_none c.in_ok-check.field-0 c.is_none-satisfied.result c.is_none-sa
 same : (c : After-is_none-satisfied) → length (sheet_text c.args.effort.steps c.args.effort.dives c.is_none-satisfied.result c.args.assignment.now) ≡ length (sheet_text c.args.effort.steps c.args.effort.dives (is_none c.in_ok-check.field-0) c.args.assignment.now)
 same c = ap (λ b. length (sheet_text c.args.effort.steps c.args.effort.dives b c.args.assignment.now)) (says c)
 
-pub returns-then-not-sheet_fits : goal.returns-then-not-sheet_fits
-returns-then-not-sheet_fits c =
-    let k = (goal.at.returns-then-not-sheet_fits c).After-is_none-satisfied in
-    let long = subst (λ n. length c.args.out.now < n) (same k) (leb-false _ _ (sym c.if-not-sheet_fits.ensures)) in
+pub returns-then-not-fits : goal.returns-then-not-fits
+returns-then-not-fits c =
+    let k = (goal.at.returns-then-not-fits c).After-is_none-satisfied in
+    let long = subst (λ n. length c.args.out.now < n) (same k) (leb-false _ _ (sym c.if-not-fits.ensures)) in
     record {
       text = ap (λ r. (Err r, c.args.out.now)) c.at.ensures ∙ printed_short c.args.effort.steps c.args.effort.dives c.args.variables c.args.words.now c.args.assignment.now c.args.out.now c.in_ok-check.field-0 (told k) long;
       tells = tt;
@@ -31,7 +31,7 @@ returns-then-not-sheet_fits c =
 pub returns : goal.returns
 returns c =
     let k = (goal.at.returns c).After-is_none-satisfied in
-    let room = subst (λ n. n ≤ length c.args.out.now) (same k) (leb-true _ _ (sym c.if-not-sheet_fits.ensures)) in
+    let room = subst (λ n. n ≤ length c.args.out.now) (same k) (leb-true _ _ (sym c.if-not-fits.ensures)) in
     let values = c.due.ensures ∙ ap (λ b. due_of b c.args.assignment.now) (says k) in
     let text =
     c.fill.ensures
