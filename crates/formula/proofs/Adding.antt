@@ -1,6 +1,6 @@
 -- One clause more.
-use Rattle.std.proofs.Common.{◌≡◌, ℕ, suc, ◌+◌, ◌-◌, ◌<◌, ◌≤◌, true, cond, List, [], ◌∷◌, ◌++◌, length, take, drop, ℤ, sym, refl, ap, ◌∙◌, subst, add-one, arith}
-use Rattle.std.proofs.lemmas.List.{take_all, drop_at, take-append-le, drop-append-le, length-append, length-drop, get_or_append_left, get_or_at, append_assoc, append-nil}
+use Rattle.std.proofs.Common.{◌≡◌, ℕ, suc, ◌+◌, ◌-◌, ◌<◌, ◌≤◌, true, cond, List, [], ◌∷◌, ◌++◌, length, take, drop, ℤ, sym, refl, ap, ◌∙◌, subst, arith}
+use Rattle.std.proofs.lemmas.List.{take_all, drop_at, take-append-le, drop-append-le, length-append, length-drop, get_or_append_left, get_or_at}
 use Rattle.formula.specs.declared.entry.Entry.{Entry}
 use Rattle.formula.specs.declared.formula.Formula.{Formula}
 use Rattle.formula.specs.declared.span.Span.{Span}
@@ -89,9 +89,6 @@ pub record Adding (xs : List Entry) (f g : Formula) : Type 0 where
   pub same_spans : g.spans ≡ f.spans
   pub entries : g.entries.items ≡ f.entries.items ++ xs
 
-pub adding_start : (f : Formula) → Adding [] f f
-adding_start f = record { same_variables = refl; same_spans = refl; entries = sym (append-nil f.entries.items) }
-
 module _ (c : List ℤ) (v : ℕ) (f : Formula) (l : entry_count f + length c ≤ 4096) where
   -- the next entry has room
   pub adding_room : (es : List Entry) → es ≡ f.entries.items ++ entries_to c v → hit v c ≡ true → length es < 4096
@@ -99,14 +96,6 @@ module _ (c : List ℤ) (v : ℕ) (f : Formula) (l : entry_count f + length c �
       let n = normal_short c (suc v) in
       let k : length (entries_to c (suc v)) ≡ length (entries_to c v) + 1 = length-append (entries_to c v) (kept (entry_of c v)) ∙ ap (λ b. length (entries_to c v) + length (cond b (entry_of c v ∷ []) [])) q in
       omega (arith, ap length e, length-append f.entries.items (entries_to c v))
-
-  -- one more, or none
-  pub entries_more : (es es' : List Entry) → es ≡ f.entries.items ++ entries_to c v → es' ≡ es ++ kept (entry_of c v) → es' ≡ f.entries.items ++ entries_to c (v + 1)
-  entries_more es es' e e' =
-      e'
-      ∙ (ap (λ xs. xs ++ kept (entry_of c v)) e
-      ∙ (append_assoc f.entries.items (entries_to c v) (kept (entry_of c v))
-      ∙ ap (λ n. f.entries.items ++ entries_to c n) (sym (add-one v))))
 
 module _ (c : List ℤ) (f : Formula) (free : clause_count f < 1024) (l : entry_count f + length c ≤ 4096) (ss : List Span) (es : List Entry) (s : Span) (e : es ≡ f.entries.items ++ entries_to c f.variables) (from : s.start ≡ entry_count f) (to : s.end ≡ length es) where
   short : length es ≤ entry_count f + length c

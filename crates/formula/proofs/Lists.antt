@@ -76,9 +76,6 @@ pub record Listing (xs : List ℕ) (o p : Occurrences) : Type 0 where
   pub same_spans : p.spans ≡ o.spans
   pub items : p.clauses.items ≡ o.clauses.items ++ xs
 
-pub listing_start : (o : Occurrences) → Listing [] o o
-listing_start o = record { same_spans = refl; items = sym (append-nil o.clauses.items) }
-
 module _ (q : ℕ → Bool) (i n : ℕ) (o : Occurrences) (l : i < n) (few : listed o + length (passing q n) ≤ 4096) (cs : List ℕ) (h : cs ≡ o.clauses.items ++ passing q i) where
   pub listing_room : q i ≡ true → length cs < 4096
   listing_room e = omega (arith, ap length h, length-append o.clauses.items (passing q i), passing_room q i n l e)
@@ -94,9 +91,6 @@ module _ (q : ℕ → Bool) (i n : ℕ) (o : Occurrences) (l : i < n) (few : lis
 module _ (f : Formula) (v : ℕ) (o : Occurrences) (small : v < 256) (was : OccursTo f v o) (cs : List ℕ) (s : Span) (h : cs ≡ o.clauses.items ++ passing (names_at f v) (clause_count f)) (from : s.start ≡ listed o) (to : s.end ≡ length cs) where
   long : length cs ≡ listed o + length (passing (names_at f v) (clause_count f))
   long = ap length h ∙ length-append o.clauses.items (passing (names_at f v) (clause_count f))
-
-  pub inside_more : Inside (set o.spans v s) (length cs)
-  inside_more = inside_set o.spans v (length cs) s (omega (arith, o.rows)) (omega (arith, long)) (omega arith) (inside_longer o.spans (listed o) (length cs) (omega (arith, long)) o.inside)
 
   pub occurs_more : (p : Occurrences) → p.spans ≡ set o.spans v s → p.clauses.items ≡ cs → OccursTo f (v + 1) p
   occurs_more p es ec =

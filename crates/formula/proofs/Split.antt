@@ -7,7 +7,6 @@ use Rattle.std.proofs.ByRecursion.{All-get_or}
 use Rattle.cnf.specs.Tables.{is_zero, Literal, Clause, spelled, literals_in, Legal, onto, clauses_of}
 use Rattle.formula.specs.declared.formula.Formula.{Formula}
 use Rattle.formula.specs.Entries.{entries_to}
-use Rattle.formula.specs.Made.{Made}
 use Rattle.formula.specs.Formulas.{Added, Holds, FirstZero, clause_count, entry_count, entries_of}
 use Rattle.formula.proofs.Sums.{at_all}
 
@@ -68,19 +67,6 @@ pub record Loading (v : ℕ) (all ws : List ℤ) (f : Formula) : Type 0 where
   pub entries : (i : ℕ) → i < clause_count f → entries_of f i ≡ entries_to (get_or legal.clauses i []) v
   pub room : entry_count f + literals_in (drop (clause_count f) legal.clauses) ≤ 4096
 
--- no clause yet
-pub made_none : (v : ℕ) → v ≤ 256 → Made v [] []
-made_none v l =
-    record {
-      few_variables = l;
-      few_clauses = omega arith;
-      few_entries = omega arith;
-      all_entries = omega arith;
-      inside = λ i m. absurd (omega arith);
-      signed = λ i m. absurd (omega arith);
-      distinct = λ i m. absurd (omega arith);
-    }
-
 pub loading_start : (v : ℕ) (ws : List ℤ) (f : Formula) → Legal v ws → f.variables ≡ v → f.spans.items ≡ [] → f.entries.items ≡ [] → Loading v ws ws f
 loading_start v ws f legal ev es ee =
     let none : clause_count f ≡ 0 = ap length es in
@@ -116,9 +102,6 @@ module _ (v : ℕ) (all ws : List ℤ) (f : Formula) (h : Loading v all ws f) wh
 
     each : Clause v c
     each = All-get_or (Clause v) cs n [] more h.legal.each
-
-    pub loading_free : n < 1024
-    loading_free = omega (arith, more, h.legal.number)
 
     end_is : r ≡ length c
     end_is = zero_is v c (spelled (drop (n + 1) cs)) r each.1 (subst (λ xs. FirstZero xs 0 r) next z)

@@ -47,6 +47,7 @@ impl Occurrences {
         ensures more { listed self.new ≡ listed self.old + length (passing (names_at f.now variable) (clause_count f.now)) }
     {
         let start = self.clauses.len() as u16;
+        // Stays (no plainer): the clause's number is what is listed.
         for i in 0..f.clauses() {
             if names(f.entries_of(i), variable) {
                 self.clauses.push(i as u16);

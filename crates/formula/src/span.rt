@@ -3,6 +3,7 @@ ghost use Rattle.std.specs.Prelude.{◌≡◌, ◌≤◌, length};
 ghost use Rattle.formula.specs.Spans.{part_of};
 
 // From `start` on and before `end`.
+// Stays (rule): lists of any lengths lie one behind the other in memory of a fixed size, so each is marked by two places.
 #[derive(Clone, Copy, Default)]
 pub struct Span {
     pub start: u16,

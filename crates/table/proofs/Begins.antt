@@ -1,31 +1,15 @@
 -- The start of a search.
-use Rattle.std.proofs.Common.{◌≡◌, ℕ, ◌+◌, ◌<◌, Bool, true, false, cond, eqb, List, length, get_or, set, pos, ◌-ℤ◌, sym, refl, ap, ◌∙◌, ap₂, mul-zero, arith}
+use Rattle.std.proofs.Common.{◌≡◌, ℕ, ◌<◌, Bool, true, false, cond, eqb, List, length, get_or, pos, ◌-ℤ◌, sym, refl, ap, ◌∙◌, ap₂, mul-zero, arith}
 use Rattle.std.proofs.lemmas.Bool.{eq-eqb, or_left, cond-true, lt-ltb}
-use Rattle.std.proofs.lemmas.List.{get_or-set_same, get_or-set_other}
 use Rattle.formula.specs.declared.formula.Formula.{Formula}
 use Rattle.formula.specs.Clauses.{sum_to, flip_at}
 use Rattle.formula.specs.Entries.{count}
 use Rattle.formula.specs.Formulas.{clause_count, entries_of}
-use Rattle.formula.proofs.Sums.{at_all, sum_to_same, sum_to_const}
+use Rattle.formula.proofs.Sums.{sum_to_same, sum_to_const}
 use Rattle.table.specs.declared.table.Row.{Row}
-use Rattle.table.specs.declared.table.ClauseRow.{ClauseRow}
 use Rattle.table.specs.declared.table.Table.{Table}
-use Rattle.table.specs.Rows.{loss, cost_in, loss_at, clause0, row_at, value_at, stamp_at, weight_at, count_at, rules_of, row_from}
+use Rattle.table.specs.Rows.{loss, cost_in, loss_at, row_at, value_at, stamp_at, weight_at, rules_of, row_from}
 use Rattle.table.specs.Sound.{Sound, Weighing, Counted, Begun}
-
--- one clause more is counted
-pub counted_more : (f : Formula) (i n : ℕ) (t u : Table) → i < 1024 → Counted f i t → u.rows ≡ t.rows → u.clauses ≡ set t.clauses i (record { weight = 0; count = n }) → n ≡ count (value_at t) (entries_of f i) → Counted f (i + 1) u
-counted_more f i n t u l h er ec en =
-    let r : ClauseRow = record { weight = 0; count = n } in
-    let same : get_or u.clauses i clause0 ≡ r = ap (λ cs. get_or cs i clause0) ec ∙ get_or-set_same t.clauses i r clause0 (omega (arith, t.clause_size)) in
-    let other : (k : ℕ) → (k ≡ i → ⊥) → get_or u.clauses k clause0 ≡ get_or t.clauses k clause0 = λ k ne. ap (λ cs. get_or cs k clause0) ec ∙ get_or-set_other t.clauses i k r clause0 ne in
-    let ev : value_at t ≡ value_at u = ap (λ rs. λ y. (get_or rs y (record { value = false; score = pos 0; stamp = 0; changed = false })).value) (sym er) in
-    record {
-      weights = at_all (λ k. k < i + 1 → weight_at u k ≡ 0) i (λ _. ap (λ (z : ClauseRow). z.weight) same) (λ k ne m. ap (λ (z : ClauseRow). z.weight) (other k ne) ∙ h.weights k (omega arith));
-      counts = at_all (λ k. k < i + 1 → count_at u k ≡ count (value_at u) (entries_of f k)) i
-          (λ _. ap (λ (z : ClauseRow). z.count) same ∙ (en ∙ ap (λ a. count a (entries_of f i)) ev))
-          (λ k ne m. ap (λ (z : ClauseRow). z.count) (other k ne) ∙ (h.counts k (omega arith) ∙ ap (λ a. count a (entries_of f k)) ev));
-    }
 
 pub no_weight : (f : Formula) (W : ℕ → ℕ) → ((k : ℕ) → k < clause_count f → W k ≡ 0) → sum_to (clause_count f) W ≡ 0
 no_weight f W h = sum_to_same (clause_count f) W (λ _. 0) h ∙ (sum_to_const (clause_count f) 0 ∙ mul-zero (clause_count f))

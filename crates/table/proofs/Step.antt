@@ -43,9 +43,6 @@ module _ (f : Formula) (t : Table) (x i : ℕ) (l : i < clause_count f) (mid : M
   pub count_now : count_at t i ≡ count (value_at t) (entries_of f i)
   count_now = mid.counts i l ∙ cond-false _ _ _ (le-ltb i i (omega arith))
 
-  pub weight_small : weight_at t i < 2 ^ 40
-  weight_small = omega (arith, sum_to_term (clause_count f) (weight_at t) i l, mid.light)
-
   pub short : length (entries_of f i) ≤ 4096
   short = simp length-take (omega (arith, f.made.inside i l, f.made.few_entries))
 

@@ -9,7 +9,7 @@ use Rattle.formula.proofs.Sums.{at_all, sum_to_same, sum_to_le, sum_to_add, sum_
 use Rattle.table.specs.declared.table.ClauseRow.{ClauseRow}
 use Rattle.table.specs.declared.table.Table.{Table}
 use Rattle.table.specs.Rows.{clause_at, weight_at, count_at, gained, eased_at, reweighted}
-use Rattle.table.specs.Sound.{Sound, Reweighed, Weighing}
+use Rattle.table.specs.Sound.{Reweighed, Weighing}
 
 -- a mix of two weightings weighs less than both together
 pub mix_le : (n i : ℕ) (W V : ℕ → ℕ) → sum_to n (λ k. cond (ltb k i) (V k) (W k)) ≤ sum_to n W + sum_to n V
@@ -18,10 +18,6 @@ mix_le n i W V = omega (arith, sum_to_le n (λ k. cond (ltb k i) (V k) (W k)) (�
     go : (b : Bool) (x y : ℕ) → cond b x y ≤ y + x
     go true x y = omega arith
     go false x y = omega arith
-
-pub weighing_start : (f : Formula) (V : ℕ → ℕ) (t : Table) → Sound f t → Weighing f V 0 t t
-weighing_start f V t s =
-    record { sound = s; values = λ y. refl; stamps = λ y. refl; weights = λ k. sym (cond-false _ _ _ (le-ltb k 0 (omega arith))); counts = λ k. refl; ticks = refl }
 
 -- the weight of clause i is next
 next_mix : (V : ℕ → ℕ) (W U : ℕ → ℕ) (i w : ℕ) → w ≡ V i → ((k : ℕ) → U k ≡ cond (ltb k i) (V k) (W k)) → (k : ℕ) → reweighted U i w k ≡ cond (ltb k (i + 1)) (V k) (W k)
@@ -71,14 +67,6 @@ tenths (suc n) W = omega (arith, tenths n W)
 
 pub eased_light : (n : ℕ) (t : Table) (share : ℕ) → sum_to n (eased_at t share) ≤ sum_to n (weight_at t) + n * share
 eased_light n t share = omega (arith, sum_to_add n (λ k. 3 * weight_at t k / 10) (λ _. share), sum_to_const n share, tenths n (weight_at t))
-
-pub eased_le : (n : ℕ) (t : Table) → 0 < n → sum_to n (eased_at t (7 * sum_to n (weight_at t) / (10 * n))) ≤ sum_to n (weight_at t)
-eased_le n t p =
-    let S = sum_to n (weight_at t) in
-    let q = 7 * S / (10 * n) in
-    let d : q * (10 * n) ≤ 7 * S = div-mul-le_self (7 * S) (10 * n) in
-    let e : q * (10 * n) ≡ 10 * (n * q) = mul_comm q (10 * n) ∙ mul_assoc 10 n q in
-    omega (arith, sum_to_add n (λ k. 3 * weight_at t k / 10) (λ _. q), sum_to_const n q, tenths n (weight_at t))
 
 -- what smoothing gives to all clauses together is at most the sum
 pub shares_le : (n s : ℕ) → n * (7 * s / (10 * n)) ≤ s

@@ -12,18 +12,21 @@ use formula::entry::Entry;
 use formula::formula::Formula;
 use formula::occurrences::Occurrences;
 
-// What a clause with `count` true literals adds to the score of a variable that has `t` true and `f` false ones in it.
-fn gain(weight: u32, count: u16, t: u16, f: u16) -> i64
-    requires { (t ≤ count) × ((count ≤ 8192) × (f ≤ 2)) }
-    ensures { result ≡ gain_z weight count t f }
-{
-    let w = weight as i64;
-    if count == 0 {
-        if f == 0 { 0 } else { w }
-    } else if count - t + f == 0 {
-        -w
-    } else {
-        0
+impl ClauseRow {
+    // What the clause adds to the score of a variable that has `t` true and `f` false literals in it.
+    fn gain(self, t: u16, f: u16) -> i64
+        requires count_bound { (t ≤ self.count) × (self.count ≤ 8192) }
+        requires f_bound { f ≤ 2 }
+        ensures { result ≡ gain_z self.weight self.count t f }
+    {
+        let w = self.weight as i64;
+        if self.count == 0 {
+            if f == 0 { 0 } else { w }
+        } else if self.count - t + f == 0 {
+            -w
+        } else {
+            0
+        }
     }
 }
 
@@ -41,10 +44,9 @@ impl Change {
         requires e_bound { (trues value e ≤ self.before.count) × (trues value e ≤ self.after.count) }
         ensures { result ≡ shift_z self.before self.after value e }
     {
-        let Change { before, after } = self;
         let t = e.true_at(value);
         let f = e.true_at(!value);
-        gain(after.weight, after.count, t, f) - gain(before.weight, before.count, t, f)
+        self.after.gain(t, f) - self.before.gain(t, f)
     }
 }
 
@@ -57,7 +59,7 @@ impl Table {
     {
         let row = &mut self.rows[y];
         row.score += delta;
-        row.changed = row.changed || mark;
+        row.changed |= mark;
     }
 
     // Brings the score of an entry's variable from one row of its clause to another.

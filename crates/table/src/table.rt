@@ -17,6 +17,7 @@ pub struct ClauseRow {
     pub count: u16,
 }
 
+// Stays (rule): there are 256 rows of variables and 1,024 of clauses, whatever the formula has.
 #[derive(Drop)]
 pub struct Table {
     pub rows: [Row; 256],

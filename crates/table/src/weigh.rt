@@ -60,6 +60,7 @@ impl Table {
         requires light { (V : ℕ → ℕ) × Makes (R.post rule) f.now self.old V × (sum_to (clause_count f.now) (weight_at self.old) + sum_to (clause_count f.now) V < 2 ^ 40) }
         ensures { (V : ℕ → ℕ) → Makes (R.post rule) f.now self.old V → Weighing f.now V (clause_count f.now) self.old self.new }
     {
+        // Stays (no plainer): each turn needs the whole table, and the clause's number.
         for i in 0..f.clauses() {
             let weight = rule(self.clauses[i]);
             self.reweigh(f, i, weight);
