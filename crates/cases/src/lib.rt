@@ -5,5 +5,4 @@ ghost use Rattle.cases.specs.Examples.{Worked};
 
 pub fn examples_hold()
     ensures { Worked }
-{
-}
+{}

@@ -1,4 +1,5 @@
 // The checks of a table and of a start, and the first clause that a start leaves unsatisfied.
+// Stays (rule): a table is handed over as the number of its variables and a lent slice of words, and a start as a byte for each variable.
 ghost use Rattle.std.specs.Prelude.{◌≡◌, ◌<◌, [], length, IfSome, MatchOption, nat_lt};
 ghost use Rattle.std.specs.List.{position_from};
 ghost use Rattle.cnf.specs.Tables.{is_zero, values_of, holds, clauses_of, first_unsatisfied, Parted};

@@ -54,8 +54,8 @@ impl Tally {
         }
         Ok(Tally {
             ended: self.ended + 1,
-            literals: self.literals,
             begun: false,
+            ..self
         })
     }
 
@@ -70,9 +70,9 @@ impl Tally {
             return Err(Check::LiteralCount);
         }
         Ok(Tally {
-            ended: self.ended,
             literals: self.literals + 1,
             begun: true,
+            ..self
         })
     }
 

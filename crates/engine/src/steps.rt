@@ -55,6 +55,7 @@ fn dive(search: &mut Search, number: u32) -> Move
     let place = place_of(number, search.unsatisfied_count());
     let clause = search.unsatisfied_at(place);
     search.weigh();
+    // Stays (no plainer): 0 where a clause names no variable. The definition of a dive says so of every clause, and a loaded one names some.
     let x = top_of_clause(search, clause).unwrap_or(0);
     flip_by(search, 0, x)
 }

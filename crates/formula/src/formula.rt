@@ -53,6 +53,7 @@ impl Formula {
         ensures { Added clause.now self.old self.new }
     {
         let start = self.entries.len() as u16;
+        // Stays (no plainer): variables are numbers, and there is no list of them to go over.
         for v in 0..self.variables {
             let e = entry_of(clause, v as u8);
             if e.is_named() {

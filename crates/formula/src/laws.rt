@@ -2,8 +2,6 @@
 ghost use Rattle.formula.specs.Meaning.{SameMeaning};
 
 // The entries that a clause gets satisfy and name what its words do.
-pub fn entries_mean_the_words() -> u8
+pub fn entries_mean_the_words()
     ensures { SameMeaning }
-{
-    0
-}
+{}

@@ -45,6 +45,7 @@ fn effort(answer: Result<Answer, Refusal>) -> Result<Effort, Refusal>
 fn read_values(engine: &Engine, values: &mut [u8])
     ensures { Holds (held engine.now) (length values.old) → values.new ≡ bytes_in (held engine.now) }
 {
+    // Stays (no plainer): false and 0 where nothing is held or written. Both are said by the definitions, of smaller lent memory too.
     for (x, value) in values.iter_mut().enumerate() {
         *value = u8::from(engine.value(x + 1).unwrap_or(false));
     }

@@ -44,6 +44,7 @@ pub enum Question {
 }
 
 // A load and a restart name parts of the lent words and starts, a step and a run places of the lent policies and sources.
+// Stays (no plainer): calls and questions as data, matched where they are made. The laws speak of every series, so that a series has to be a value, and a closure is none that a clause could read.
 #[derive(Clone, Copy, Debug, PartialEq, Eq)]
 pub enum Call {
     Load {

@@ -54,6 +54,7 @@ impl Search {
     }
 
     // Each unsatisfied clause gains weight 1, and weights of more than 300 on average are smoothed. No tick passes: one has to pass before the next weighing.
+    // Stays (no plainer): a clause, and no fact of the type. Between a weighing and its tick a search is not paced.
     pub fn weigh(&mut self)
         requires pace { Paced (model self.old) }
         requires tick { (model self.old).tick < 1000000 }
