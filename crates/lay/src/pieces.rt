@@ -28,6 +28,7 @@ pub fn number_width(number: usize) -> usize
 }
 
 // Lays the decimal digits of a number, and gives the place after them.
+// Stays (rule): digits by hand, and no write! of a number. The bytes are lent, what does not fit may alter none of them, and no call may want memory.
 pub fn lay_number(out: &mut [u8], at: usize, number: usize) -> usize
     requires { at + length (decimal number) ≤ length out.old }
     ensures end { result ≡ at + length (decimal number) }

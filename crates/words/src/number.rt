@@ -38,6 +38,7 @@ pub fn is_number(bytes: &[u8]) -> bool
 }
 
 // The number that digits write, 100,000 at most.
+// Stays (rule): digits by hand, and no parse. A word may have any number of digits, and one that is too large is told apart from one that is no number.
 fn magnitude(digits: &[u8]) -> u32
     ensures { result ≡ min (decimal_value digits.now) 100000 }
 {
