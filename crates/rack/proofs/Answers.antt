@@ -5,13 +5,12 @@ use Rattle.std.proofs.lemmas.List.{take_all, take-append-le}
 use Rattle.std.specs.Result.{IfOk, result_unwrap_or}
 use Rattle.cnf.specs.declared.refusal.Refusal.{Refusal}
 use Rattle.cnf.specs.Scans.{judged}
-use Rattle.words.specs.declared.faults.HeadFault.{HeadFault}
 use Rattle.dimacs.specs.declared.read.Problem.{Problem}
 use Rattle.dimacs.specs.Reads.{read_answer, text_words, table_after, read_table}
 use Rattle.sheet.specs.Sheets.{fitted, printed, printed_by, is_none}
 use Rattle.sheet.specs.Texts.{sheet_text}
 use Rattle.sheet.specs.RefusedLines.{line_for, refused_text}
-use Rattle.rack.specs.Answers.{sheet_of, count_of}
+use Rattle.rack.specs.Answers.{count_of}
 
 -- the words of the text stand at the front of the table
 pub read_words : (text : List ℕ) (old : List ℤ) (p : Problem) → read_answer text (length old) ≡ Ok p → p.words ≡ length (text_words text) → take p.words (read_table text old) ≡ text_words text

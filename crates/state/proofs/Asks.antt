@@ -1,8 +1,6 @@
 -- What questions answer.
-use Rattle.std.proofs.Common.{◌≡◌, ℕ, ◌+◌, ◌-◌, ◌<◌, ◌≤◌, length, get_or, drop, pos, ◌+ℤ◌, ◌≤ℤ◌, sym, ap, ◌∙◌, subst, arith}
+use Rattle.std.proofs.Common.{ℕ, ◌<◌, ◌≤◌, length, get_or, pos, ◌+ℤ◌, ◌≤ℤ◌, arith}
 use Rattle.std.proofs.lemmas.Int.{ints}
-use Rattle.std.proofs.lemmas.List.{get_or-map, get_or-take, get_or-drop, length-map, length-take-le, length-drop}
-use Rattle.formula.specs.declared.entry.Entry.{Entry}
 use Rattle.formula.specs.declared.formula.Formula.{Formula}
 use Rattle.formula.specs.declared.given.Given.{Given}
 use Rattle.formula.specs.declared.occurrences.Occurrences.{Occurrences}
@@ -11,11 +9,10 @@ use Rattle.formula.specs.Entries.{entry0}
 use Rattle.formula.specs.Formulas.{clause_count, entries_of}
 use Rattle.formula.proofs.Counts.{named_at, named_small}
 use Rattle.table.specs.declared.table.Table.{Table}
-use Rattle.state.specs.Model.{Model, variables_in}
+use Rattle.state.specs.Model.{Model}
 use Rattle.table.specs.Rows.{rules_of, row_at, value_at}
 use Rattle.state.specs.Standing.{model_in, Kept}
 use Rattle.table.proofs.Reweighs.{cost_le_sum}
-use Rattle.state.proofs.Models.{variables_are}
 
 module _ (g : Given) (f : Formula) (o : Occurrences) (t : Table) (kept : Kept g f o t) where
   abbrev m : Model

@@ -32,7 +32,11 @@ pub struct Table {
 
 impl Table {
     // Rows that are all 0.
-    pub fn new() -> Table {
+    pub fn new() -> Table
+        ensures cost { result.cost ≡ 0 }
+        ensures total { result.total ≡ 0 }
+        ensures tick { result.tick ≡ 0 }
+    {
         Table {
             rows: [Row::default(); 256],
             clauses: [ClauseRow::default(); 1024],

@@ -4,7 +4,6 @@ use Rattle.cnf.specs.Scans.{and_then}
 use Rattle.state.specs.Model.{Model, Paced}
 use Rattle.state.specs.Searches.{model}
 use Rattle.policy.specs.Levels.{Levels}
-use Rattle.engine.specs.Steps.{run}
 use Rattle.engine.specs.Calls.{ticks_left, run_checked, run_with, run_reply, trail_with, run_trail}
 use Rattle.engine.proofs.Going.{run_sound}
 use Rattle.engine.proofs.StepCases.{filled_search, kept}

@@ -1,11 +1,11 @@
-use Rattle.std.proofs.Common.{◌≡◌, ◌+◌, leb, Ok, Err, Some, sym, ap, ◌∙◌, subst, rules}
+use Rattle.std.proofs.Common.{◌+◌, leb, Ok, Err, Some, sym, ap, ◌∙◌, subst, rules}
 use Rattle.std.specs.Option.{option_map}
 use Rattle.cnf.specs.declared.refusal.Check.TheVariants.{TicksLeft}
 use Rattle.cnf.specs.Refusals.{refused}
 use Rattle.state.specs.Model.{Model, Paced}
 use Rattle.state.specs.Searches.{model}
 use Rattle.policy.specs.Levels.{Levels}
-use Rattle.engine.specs.Steps.{stepped, offer, left}
+use Rattle.engine.specs.Steps.{offer, left}
 use Rattle.engine.specs.Calls.{step_reply}
 use Rattle.engine.proofs.Going.{step_sound}
 use Rattle.engine.proofs.StepCases.{filled_search, kept, passed}
