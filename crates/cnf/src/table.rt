@@ -72,7 +72,7 @@ fn first_zero(words: &[i32]) -> Option<usize>
 }
 
 // The literals of the first clause, and the words behind its 0; none where no clause is ended.
-fn first_clause(words: &[i32]) -> Option<(&[i32], &[i32])>
+pub fn first_clause(words: &[i32]) -> Option<(&[i32], &[i32])>
     ensures { MatchOption result (clauses_of words.now ≡ []) (λ p. Parted words.now p.0.now p.1.now) }
 {
     let end = first_zero(words)?;
@@ -86,6 +86,7 @@ fn first_unsatisfied(words: &[i32], start: &[u8]) -> Option<usize>
     let mut clause = 0;
     let mut left = words;
     let mut broken = None;
+    // Stays (rule): the clauses are left and gone on with by a label.
     'clauses: while let Some((literals, behind)) = first_clause(left) {
         clause += 1;
         left = behind;

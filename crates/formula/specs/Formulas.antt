@@ -1,7 +1,7 @@
 -- What a formula holds.
-use Rattle.std.specs.Prelude.{◌≡◌, ℕ, ◌+◌, ◌<◌, ◌≤◌, true, false, List, [], length, ℤ, pos, slice_index_or}
+use Rattle.std.specs.Prelude.{◌≡◌, ℕ, ◌+◌, ◌<◌, ◌≤◌, List, [], length, ℤ, slice_index_or}
 use Rattle.std.specs.List.{AllByRecursion}
-use Rattle.cnf.specs.Tables.{Clause, is_zero}
+use Rattle.cnf.specs.Tables.{Clause}
 use Rattle.formula.specs.declared.entry.Entry.{Entry}
 use Rattle.formula.specs.declared.formula.Formula.{Formula}
 use Rattle.formula.specs.declared.given.Given.{Given}
@@ -34,13 +34,6 @@ pub record Holds (v : ℕ) (cs : List (List ℤ)) (f : Formula) : Type 0 where
   pub clauses : clause_count f ≡ length cs
   pub entries : (i : ℕ) → i < length cs → entries_of f i ≡ entries_to (slice_index_or cs i []) v
   pub each : AllByRecursion (Clause v) cs
-
--- the place of the first 0 at or after the place k, or the end
-pub record FirstZero (ws : List ℤ) (k r : ℕ) : Type 0 where
-  pub from : k ≤ r
-  pub within : r ≤ length ws
-  pub before : (j : ℕ) → k ≤ j → j < r → is_zero (slice_index_or ws j (pos 0)) ≡ false
-  pub at : r < length ws → is_zero (slice_index_or ws r (pos 0)) ≡ true
 
 -- the words as they were given
 abbrev pub words_of : Given → List ℤ

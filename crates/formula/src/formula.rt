@@ -3,8 +3,8 @@ ghost use Rattle.formula.specs.Made.{Made, made_prop};
 
 use crate::entry::{Entry, entry_of};
 use crate::span::Span;
-use crate::zero::first_zero;
 use arrayvec::ArrayVec;
+use cnf::table::first_clause;
 
 // Each clause has its entries in one span, by rising variable.
 #[derive(Drop)]
@@ -73,9 +73,9 @@ impl Formula {
         self.spans.clear();
         self.entries.clear();
         let mut rest = words;
-        while let Some(end) = first_zero(rest) {
-            self.add_clause(&rest[..end]);
-            rest = &rest[end + 1..];
+        while let Some((clause, behind)) = first_clause(rest) {
+            self.add_clause(clause);
+            rest = behind;
         }
     }
 }

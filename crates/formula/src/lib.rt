@@ -7,4 +7,3 @@ pub mod given;
 pub mod laws;
 pub mod occurrences;
 pub mod span;
-mod zero;
