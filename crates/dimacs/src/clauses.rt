@@ -1,5 +1,5 @@
 // The clauses of a text, word by word.
-// Stays (no plainer): a tally's bound and its head are asked of three functions; a struct of both would be made anew at each word.
+// Stays (no plainer): head and tally are two parameters, and the tally's bound is a clause of three functions. The head is the same for the whole text and the tally another at each word, and each definition takes the two apart.
 ghost use Rattle.std.specs.Prelude.{◌≡◌, ◌≤◌, ◌++◌, length, drop};
 ghost use Rattle.cnf.specs.Scans.{no_words};
 ghost use Rattle.words.specs.Words.{said, tokens};

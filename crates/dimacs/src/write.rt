@@ -24,6 +24,7 @@ fn words_width(words: &[i32]) -> usize
     width
 }
 
+// Stays (no plainer): the bytes and the place are two parameters, as in the calls of `lay`.
 // Lays a word and the byte behind it, and gives the place after both.
 fn lay_piece(out: &mut [u8], at: usize, word: i32) -> usize
     requires { at + length (piece word) ≤ length out.old }

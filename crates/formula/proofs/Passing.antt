@@ -1,7 +1,9 @@
 -- The numbers that pass a test, counted one by one.
-use Rattle.std.proofs.Common.{◌≡◌, ℕ, zero, suc, ◌+◌, ◌-◌, ◌<◌, ◌≤◌, Bool, true, false, cond, List, [], ◌∷◌, ◌++◌, length, get_or, take, filter, sym, refl, ap, ◌∙◌, ap₂, ⊎_elim, add-one, arith}
+use Rattle.std.proofs.Common.{◌≡◌, ℕ, zero, suc, ◌+◌, ◌-◌, ◌<◌, ◌≤◌, Bool, true, false, cond, List, [], ◌∷◌, ◌++◌, length, get_or, take, filter, map, sym, refl, ap, ◌∙◌, ap₂, ⊎_elim, add-one, arith}
+use Rattle.std.specs.List.{enumerate_from}
 use Rattle.std.proofs.lemmas.Bool.{cases_eq}
-use Rattle.std.proofs.lemmas.List.{get_or_append_left, get_or-append_right}
+use Rattle.std.proofs.lemmas.List.{get_or_append_left, get_or-append_right, take_more, length-take, map-append}
+use Rattle.std.proofs.lemmas.List.Elements.{filter-append}
 use Rattle.std.proofs.lemmas.List.Filters.{length-filter_more}
 use Rattle.formula.specs.Entries.{bit}
 use Rattle.formula.specs.Occurrences.{passing}
@@ -62,3 +64,29 @@ passing-filter p xs d (suc n) l =
     one : (b : Bool) → cond b 1 0 ≡ bit b
     one true = refl
     one false = refl
+
+-- one element more at the end, with its place
+enumerate_more : {X : Type 0} (n : ℕ) (xs : List X) (x : X) → enumerate_from n (xs ++ (x ∷ [])) ≡ enumerate_from n xs ++ ((n + length xs, x) ∷ [])
+enumerate_more n [] x = let e : n ≡ n + 0 = omega arith in ap (λ m. (m, x) ∷ []) e
+enumerate_more n (y ∷ ys) x =
+    let e : n + 1 + length ys ≡ n + suc (length ys) = omega arith in
+    ap (λ es. (n, y) ∷ es) (enumerate_more (n + 1) ys x ∙ ap (λ m. enumerate_from (n + 1) ys ++ ((m, x) ∷ [])) e)
+
+-- the places of what passes among the first n elements
+pub passing-enumerated : {X : Type 0} (p : X → Bool) (xs : List X) (d : X) (n : ℕ) → n ≤ length xs → map (λ (e : ℕ × X). e.0) (filter (λ (e : ℕ × X). p e.1) (enumerate_from 0 (take n xs))) ≡ passing (λ k. p (get_or xs k d)) n
+passing-enumerated p xs d zero l = refl
+passing-enumerated {X} p xs d (suc n) l =
+    ap (λ m. places (enumerate_from 0 (take m xs))) (sym (add-one n))
+    ∙ (ap (λ ys. places (enumerate_from 0 ys)) (take_more xs n d (omega arith))
+    ∙ (ap places (enumerate_more 0 (take n xs) (get_or xs n d))
+    ∙ (ap (map (λ (e : ℕ × X). e.0)) (filter-append q (enumerate_from 0 (take n xs)) ((0 + length (take n xs), get_or xs n d) ∷ []))
+    ∙ (map-append (λ (e : ℕ × X). e.0) (filter q (enumerate_from 0 (take n xs))) (filter q ((0 + length (take n xs), get_or xs n d) ∷ []))
+    ∙ ap₂ ◌++◌ (passing-enumerated p xs d n (omega arith)) (one (0 + length (take n xs)) (p (get_or xs n d)) (omega (arith, length-take n xs)))))))
+  where
+    q : ℕ × X → Bool
+    q e = p e.1
+    places : List (ℕ × X) → List ℕ
+    places es = map (λ (e : ℕ × X). e.0) (filter q es)
+    one : (m : ℕ) (b : Bool) → m ≡ n → map (λ (e : ℕ × X). e.0) (cond b ((m, get_or xs n d) ∷ []) []) ≡ cond b (n ∷ []) []
+    one m true e = ap (λ k. k ∷ []) e
+    one m false e = refl

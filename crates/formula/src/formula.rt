@@ -64,6 +64,7 @@ impl Formula {
         self.spans.push(Span { start, end });
     }
 
+    // Stays (rule): a table is handed over as the number of its variables and a lent slice of words.
     // Takes over the clauses of a table.
     pub fn load(&mut self, variables: u16, words: &[i32])
         requires { Legal variables words.now }

@@ -1,5 +1,5 @@
 // One of several policies, and one of several sources: a series of calls can so mix them.
-// Stays (no plainer): an enum and a match for each method, and no dyn. A boxed policy would need the heap, and a lent one a lifetime beside each place of a series.
+// Stays (no plainer): an enum and a match for each method, and no dyn. The kinds are few and known here, and a value of an enum is copied, where a boxed one would need the heap.
 ghost use Rattle.std.specs.Prelude.{◌≡◌};
 ghost use Rattle.policy.specs.Any.{any_level, any_lawful, any_source, any_source_lawful};
 

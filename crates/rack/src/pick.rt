@@ -28,6 +28,7 @@ pub const SEED: u32 = 1;
 
 pub const BUDGET: usize = 1_000;
 
+// Stays (no plainer): a count that u32 could not hold is told as the greatest that it can. A run has no such count, and a clause that says so would ask more of every answer.
 // The steps and the dives that a run answered, or its refusal.
 fn effort(answer: Result<Answer, Refusal>) -> Result<Effort, Refusal>
     ensures { result ≡ effort_of answer }
@@ -45,7 +46,7 @@ fn effort(answer: Result<Answer, Refusal>) -> Result<Effort, Refusal>
 fn read_values(engine: &Engine, values: &mut [u8])
     ensures { Holds (held engine.now) (length values.old) → values.new ≡ bytes_in (held engine.now) }
 {
-    // Stays (no plainer): false and 0 where nothing is held or written. Both are said by the definitions, of smaller lent memory too.
+    // Stays (no plainer): false where nothing is held, as the definition says. A clause that something is held would stand in each function above, of smaller lent memory too.
     for (x, value) in values.iter_mut().enumerate() {
         *value = u8::from(engine.value(x + 1).unwrap_or(false));
     }
@@ -72,6 +73,7 @@ fn load_and_run(variables: usize, words: usize) -> [Call; 2]
     ]
 }
 
+// Stays (no plainer): the words, the trail, the values and the bytes are four parameters here and below. In a struct of lent parts each clause would have to say of every part what it holds before and after.
 // Makes the run on the table, reads the values that it ends with, and gives its steps and its dives. There is a value lent for each variable. A trail of another length than the budget's is answered too, and nothing is promised of the run then.
 fn play(
     variables: usize,
@@ -161,6 +163,7 @@ fn print_text(
     print_found(problem, words, trail, values, out)
 }
 
+// Stays (no plainer): 0 is the number of bytes that are written where the line does not fit.
 // Writes the line of a refusal where it fits, and gives the number of bytes.
 fn tell(refusal: Refusal, out: &mut [u8]) -> usize
     ensures line { (result, out.new) ≡ count_of (line_for refusal out.old) }

@@ -83,6 +83,7 @@ fn step_with<P: Policy, S: Source>(
 }
 
 // A run with one of the lent policies and one of the lent sources.
+// Stays (proof): the source by a test and an index, for the same reason.
 fn run_with<P: Policy, S: Source>(
     engine: &mut Engine,
     lent: Lent<P>,

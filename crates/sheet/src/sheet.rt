@@ -100,6 +100,7 @@ impl Sheet {
         })
     }
 
+    // Stays (rule): the sheet is given back beside the outcome, taken or refused, so that whoever adds has it at hand.
     // Adds the value of the next variable, 0 or 1.
     pub fn add(mut self, value: u8, out: &mut [u8]) -> (Sheet, Result<(), Refusal>)
         ensures { (result, out.new) ≡ added self value out.old }

@@ -12,6 +12,7 @@ use formula::occurrences::Occurrences;
 use table::table::Table;
 
 impl Search {
+    // Stays (rule): a table is handed over as the number of its variables and a lent slice of words, and a start as a byte for each variable.
     // A search over a table, begun at the given assignment.
     pub fn load(variables: usize, words: &[i32], start: &[u8]) -> Search
         requires table { Legal variables words.now }
@@ -54,7 +55,7 @@ impl Search {
     }
 
     // Each unsatisfied clause gains weight 1, and weights of more than 300 on average are smoothed. No tick passes: one has to pass before the next weighing.
-    // Stays (no plainer): a clause, and no fact of the type. Between a weighing and its tick a search is not paced.
+    // Stays (no plainer): the pace and the tick are clauses, and no facts of the type. Between a weighing and its tick a search is not paced, and at the last tick it can still be asked.
     pub fn weigh(&mut self)
         requires pace { Paced (model self.old) }
         requires tick { (model self.old).tick < 1000000 }

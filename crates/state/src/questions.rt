@@ -1,4 +1,4 @@
-// What a search can be asked. Variables, clauses and entries go by their places, from 0.
+// What a search can be asked. Variables and clauses go by their places, from 0.
 ghost use Rattle.std.specs.Prelude.{◌≡◌, ◌<◌, ◌≤◌, EachIndex, length, map, slice_index, slice_index_or};
 ghost use Rattle.formula.specs.declared.entry.Entry.{Entry};
 ghost use Rattle.formula.specs.Entries.{entry0};

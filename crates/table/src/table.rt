@@ -18,6 +18,7 @@ pub struct ClauseRow {
 }
 
 // Stays (rule): there are 256 rows of variables and 1,024 of clauses, whatever the formula has.
+// Stays (no plainer): that a table is sound is a clause, and no fact of the type. It speaks of the formula, which the search holds beside the table, and within a flip it does not hold.
 #[derive(Drop)]
 pub struct Table {
     pub rows: [Row; 256],

@@ -24,15 +24,12 @@ impl Table {
         ensures is { result ≡ slice_index (passing (λ k. nat_eq (count_at self.now k) 0) clauses) place }
         ensures below { result < clauses }
     {
-        let mut n = 0;
-        for (i, row) in self.clauses[..clauses].iter().enumerate() {
-            if row.count == 0 {
-                if n == place {
-                    return i;
-                }
-                n += 1;
-            }
-        }
-        unreachable!()
+        self.clauses[..clauses]
+            .iter()
+            .enumerate()
+            .filter(|(_, row)| row.count == 0)
+            .nth(place)
+            .unwrap()
+            .0
     }
 }

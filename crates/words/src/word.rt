@@ -9,6 +9,7 @@ pub enum Word<'a> {
     End(usize),
 }
 
+// Stays (rule): a reader is a lent text and a place in it.
 // A walk over the words of a text that is lent.
 #[derive(Drop)]
 pub struct Reader<'a> {
