@@ -50,7 +50,7 @@ write_crate proper 'Ok(written) => written,'
 write_crate misuse 'Ok(_) => sheet.add(1, out).0.tear(),'
 cat >"$work/crates.txt" <<END
 cnf:
-lay:
+lay: itoa
 sheet: lay cnf
 proper: sheet
 misuse: sheet

@@ -4,6 +4,8 @@ ghost use Rattle.std.specs.Prelude.{◌≡◌, ◌+◌, ◌≤◌, length, decim
 ghost use Rattle.std.specs.Fmt.{signed_decimal};
 ghost use Rattle.lay.specs.Laid.{laid};
 
+use itoa::{Buffer, Integer};
+
 // Lays some bytes, and gives the place after them.
 pub fn lay_bytes(out: &mut [u8], at: usize, bytes: &[u8]) -> usize
     requires { at + length bytes.now ≤ length out.old }
@@ -15,32 +17,39 @@ pub fn lay_bytes(out: &mut [u8], at: usize, bytes: &[u8]) -> usize
     end
 }
 
+// How many bytes a number takes.
+fn width<N: Integer>(number: N) -> usize
+    ensures value { result ≡ length (N.text number) }
+    ensures few { result ≤ N.MAX_STR_LEN }
+{
+    Buffer::new().format(number).len()
+}
+
+// Lays a number, and gives the place after it.
+fn lay<N: Integer>(out: &mut [u8], at: usize, number: N) -> usize
+    requires { at + length (N.text number) ≤ length out.old }
+    ensures end { result ≡ at + length (N.text number) }
+    ensures bytes { out.new ≡ laid out.old at (N.text number) }
+{
+    let mut buffer = Buffer::new();
+    lay_bytes(out, at, buffer.format(number).as_bytes())
+}
+
 // How many decimal digits a number has.
 pub fn number_width(number: usize) -> usize
     ensures value { result ≡ length (decimal number) }
     ensures few { result ≤ 20 }
 {
-    if number < 10 {
-        return 1;
-    }
-    let front = number_width(number / 10);
-    front + 1
+    width(number)
 }
 
 // Lays the decimal digits of a number, and gives the place after them.
-// Stays (rule): digits by hand, and no write! of a number. The bytes are lent, what does not fit may alter none of them, and no call may want memory.
 pub fn lay_number(out: &mut [u8], at: usize, number: usize) -> usize
     requires { at + length (decimal number) ≤ length out.old }
     ensures end { result ≡ at + length (decimal number) }
     ensures bytes { out.new ≡ laid out.old at (decimal number) }
 {
-    if number < 10 {
-        out[at] = b'0' + number as u8;
-        return at + 1;
-    }
-    let last = lay_number(out, at, number / 10);
-    out[last] = b'0' + (number % 10) as u8;
-    last + 1
+    lay(out, at, number)
 }
 
 // How many bytes a signed number takes, with its minus.
@@ -48,8 +57,7 @@ pub fn word_width(word: i32) -> usize
     ensures value { result ≡ length (signed_decimal word) }
     ensures few { result ≤ 21 }
 {
-    let digits = number_width(word.unsigned_abs() as usize);
-    if word < 0 { digits + 1 } else { digits }
+    width(word)
 }
 
 // Lays a signed number, and gives the place after it.
@@ -58,11 +66,5 @@ pub fn lay_word(out: &mut [u8], at: usize, word: i32) -> usize
     ensures end { result ≡ at + length (signed_decimal word) }
     ensures bytes { out.new ≡ laid out.old at (signed_decimal word) }
 {
-    let magnitude = word.unsigned_abs() as usize;
-    if word < 0 {
-        let digits = lay_bytes(out, at, b"-");
-        lay_number(out, digits, magnitude)
-    } else {
-        lay_number(out, at, magnitude)
-    }
+    lay(out, at, word)
 }

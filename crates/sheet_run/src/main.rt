@@ -3,7 +3,7 @@
 
 mod shortest;
 
-use cnf::refusal::Check;
+use cnf::refusal::{Check, Refusal};
 use shortest::{Bytes, Case};
 use std::io;
 use std::str::from_utf8;
@@ -33,9 +33,9 @@ fn both_ways(rt: &HostRuntime, case: Case) -> io::Result<()> {
 }
 
 // The line of a refusal.
-fn refusal(rt: &HostRuntime, check: Check, place: usize) -> io::Result<()> {
+fn refusal_line(rt: &HostRuntime, refusal: Refusal) -> io::Result<()> {
     let mut out = [shortest::BLANK; shortest::ROOM];
-    let written = shortest::refused(check.at(place), &mut out);
+    let written = shortest::refused(refusal, &mut out);
     show(rt, "refused line", &out, written)
 }
 
@@ -73,6 +73,6 @@ fn main(rt: HostRuntime) -> io::Result<()> {
         values: &values,
     };
     both_ways(&rt, largest)?;
-    refusal(&rt, Check::VariableRange, 10)?;
-    refusal(&rt, Check::ValueDue, usize::MAX)
+    refusal_line(&rt, Check::VariableRange.at(10))?;
+    refusal_line(&rt, Check::ValueDue.at(usize::MAX))
 }

@@ -50,38 +50,40 @@ fn shortest<S, T, C: Fn(S, &mut [u8]) -> Result<T, (S, Refusal)>>(
     Err(state)
 }
 
+// The same for a call that is made of nothing, tried from no room on.
+fn shortest_anew<T, C: Fn(&mut [u8]) -> Result<T, Refusal>>(
+    out: &mut Bytes,
+    call: C,
+) -> Option<(T, usize)>
+    requires { C.IsAlwaysCallable call }
+{
+    shortest((), 0, out, |(), lent| {
+        call(lent).map_err(|refusal| ((), refusal))
+    })
+    .ok()
+}
+
 // The number of bytes, where a call took just the room that there was.
 fn exactly(written: usize, room: usize) -> Option<usize> {
     (written == room).then_some(room)
 }
 
 pub fn print(case: Case, out: &mut Bytes) -> Option<usize> {
-    let (written, room) = shortest((), 0, out, |(), lent| {
-        print_sheet(EFFORT, case.variables, case.words, case.assignment, lent).map_err(|refusal| (
-            (),
-            refusal,
-        ))
-    })
-    .ok()?;
+    let (written, room) = shortest_anew(out, |lent| {
+        print_sheet(EFFORT, case.variables, case.words, case.assignment, lent)
+    })?;
     exactly(written, room)
 }
 
 pub fn refused(refusal: Refusal, out: &mut Bytes) -> Option<usize> {
-    let (written, room) = shortest((), 0, out, |(), lent| {
-        refused_line(refusal, lent).map_err(|other| ((), other))
-    })
-    .ok()?;
+    let (written, room) = shortest_anew(out, |lent| refused_line(refusal, lent))?;
     exactly(written, room)
 }
 
 fn begin(case: Case, out: &mut Bytes) -> Option<(Sheet, usize)> {
-    shortest((), 0, out, |(), lent| {
-        Sheet::begin(EFFORT, case.variables, case.words, case.assignment, lent).map_err(|refusal| (
-            (),
-            refusal,
-        ))
+    shortest_anew(out, |lent| {
+        Sheet::begin(EFFORT, case.variables, case.words, case.assignment, lent)
     })
-    .ok()
 }
 
 fn add(sheet: Sheet, value: u8, from: usize, out: &mut Bytes) -> Result<(Sheet, usize), Sheet> {

@@ -8,10 +8,7 @@ use crate::faults::WordFault;
 fn unsigned<'a>(bytes: &'a [u8]) -> &'a [u8]
     ensures { result.now ≡ unsigned bytes.now }
 {
-    match bytes {
-        [b'-', rest @ ..] => rest,
-        _ => bytes,
-    }
+    bytes.strip_prefix(b"-").unwrap_or(bytes)
 }
 
 fn all_digits(bytes: &[u8]) -> bool
@@ -38,7 +35,7 @@ pub fn is_number(bytes: &[u8]) -> bool
 }
 
 // The number that digits write, 100,000 at most.
-// Stays (rule): digits by hand, and no parse. A word may have any number of digits, and one that is too large is told apart from one that is no number.
+// Stays (no plainer): a parse needs from_utf8 first, its error would have to be sorted by kind, and it gives no number for bytes that are no digits, of which this promises one too.
 fn magnitude(digits: &[u8]) -> u32
     ensures { result ≡ min (decimal_value digits.now) 100000 }
 {
