@@ -25,6 +25,7 @@ pub fn replay<P: Policy, S: Source>(
     ensures laws { LawsOfSearch S }
 {
     let mut engine = Engine::new();
+    // Stays (proof): the call by its place, and no zip of calls and answers. With a zip the invariant could not say which answers are written, which only the iterator's own borrow tells.
     for (i, answer) in answers.iter_mut().enumerate() {
         let Some(call) = calls.get(i) else {
             break;
