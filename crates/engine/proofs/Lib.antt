@@ -1,5 +1,5 @@
 pub mod Folds
-mod Firsts
+mod Leasts
 mod StepCases
 pub mod Going
 pub mod Exacts

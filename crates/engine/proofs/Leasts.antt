@@ -1,14 +1,28 @@
 -- The least of a chain's items by their keys, as the fold that picks one.
-use Rattle.std.proofs.Common.{◌≡◌, ℕ, ◌<◌, Bool, cond, List, [], ◌∷◌, ◌++◌, map, Some, None, fold, Option, refl, sym, ap, ◌∙◌, subst, Bor, Ordering, Less, Equal, Greater}
+use Rattle.std.proofs.Common.{◌≡◌, ℕ, zero, suc, ◌+◌, Bool, cond, List, [], ◌∷◌, ◌++◌, map, Some, None, fold, Option, refl, sym, ap, ◌∙◌, subst, Bor, Ordering, Less, Equal, Greater, arith}
 use Rattle.std.specs.Fn.{CalledAt, TakesAt}
-use Rattle.std.specs.List.{AllByRecursion}
-use Rattle.std.specs.Iterator.{Yields, KeyTurn, PicksMinByKey, CallableInMinByKey, CallableAtEachTurn}
+use Rattle.std.specs.List.{AllByRecursion, filter, range_with_len}
+use Rattle.std.proofs.lemmas.List.Elements.{filter-append}
+use Rattle.formula.specs.Occurrences.{passing}
+use Rattle.std.specs.Iterator.{Yields, KeyTurn, PicksMinByKey, CallableInMinByKey}
 use Rattle.std.specs.Ordering.{min_by_ordering}
 use Rattle.std.proofs.lemmas.Fn.{chained_keeps, serves_by}
 use Rattle.std.proofs.lemmas.Iterator.{YieldsList, items_from_drains}
 use Rattle.std.proofs.lemmas.List.Sums.{fold_push}
-use Rattle.engine.specs.Picks.{challenged, best_of}
+use Rattle.policy.specs.declared.admission.Level.{Level}
+use Rattle.policy.specs.Levels.{Levels}
+use Rattle.policy.specs.Numbers.{level_number}
+use Rattle.state.specs.Model.{Model, score, stamp_of}
+use Rattle.engine.specs.declared.picks.Rank.{Rank}
+use Rattle.engine.specs.Picks.{level_of, challenged, best_of}
 use denote.Param.Members.{Mut}
+
+-- the rank of a variable, and its level with that
+abbrev pub RankIs : Model → ℕ → Rank → Type 0
+RankIs m x k = (k.score.0 ≡ score m x) × (k.stamp ≡ stamp_of m x)
+
+abbrev pub StandingIs : Levels → Model → ℕ → Option Level × Rank → Type 0
+StandingIs f m x k = (level_number k.0 ≡ level_of f m x) × RankIs m x k.1
 
 map_same : (xs : List ℕ) → map (λ x. x) xs ≡ xs
 map_same [] = refl
@@ -19,6 +33,14 @@ each_yielded steps P s [] road h [] t x u e st = absurd (road.runs x u (subst (�
 each_yielded steps P s [] road h (z ∷ xs) t x u e st = absurd (road.runs z e.0 e.1)
 each_yielded steps P s (y ∷ ys) road h [] t x u e st = subst P (sym (road.runs.1 x u (subst (λ v. steps v (Some x) u) (sym e) st)).0) h.0
 each_yielded steps P s (y ∷ ys) road h (z ∷ xs) t x u e st = each_yielded steps P e.0 ys (record { runs = (road.runs.1 z e.0 e.1).1 }) h.1 xs t x u e.2 st
+
+range_more : (a n : ℕ) → range_with_len a (suc n) ≡ range_with_len a n ++ (a + n) ∷ []
+range_more a zero = ap (λ k. k ∷ []) (omega arith)
+range_more a (suc n) = ap (λ k. a ∷ k) (range_more (a + 1) n ∙ ap (λ k. range_with_len (a + 1) n ++ k ∷ []) (omega arith))
+
+pub filtered_passing : (p : ℕ → Bool) (n : ℕ) → filter p (range_with_len 0 n) ≡ passing p n
+filtered_passing p zero = refl
+filtered_passing p (suc n) = ap (filter p) (range_more 0 n ∙ ap (λ k. range_with_len 0 n ++ k ∷ []) (omega arith)) ∙ filter-append p (range_with_len 0 n) (n ∷ []) ∙ ap (λ k. k ++ cond (p n) (n ∷ []) []) (filtered_passing p n)
 
 module _ {F K : Type 0} (g : Mut F (Bor ℕ × Unit {0}) K) (cmp : K → K → Ordering) (f : F) (Is : ℕ → K → Type 0) (called : (x : ℕ) (k : K) (q : F) → CalledAt g f x k q → Is x k × (q ≡ f)) where
   turn_called : (p : (F × K) × ℕ) (x : ℕ) (q : (F × K) × ℕ) → p.0.0 ≡ f → (t : KeyTurn min_by_ordering min_by_ordering g cmp p x q) → Is x t.0 × (q.0.0 ≡ f)
