@@ -1,5 +1,5 @@
 -- One candidate more.
-use Rattle.std.proofs.Common.{◌≡◌, ℕ, zero, suc, ◌+◌, ◌<◌, Bool, true, false, cond, List, [], ◌∷◌, ◌++◌, Some, None, fold, Option, refl, ap, ◌∙◌, subst, append-nil, add-one}
+use Rattle.std.proofs.Common.{◌≡◌, ℕ, zero, suc, ◌<◌, Bool, true, false, cond, List, [], ◌∷◌, ◌++◌, Some, None, fold, Option, refl, ap, subst, append-nil}
 use Rattle.std.specs.List.{AllByRecursion}
 use Rattle.std.proofs.ByRecursion.{All-append}
 use Rattle.std.proofs.lemmas.Bool.{cond_both, ltb-true}
@@ -12,9 +12,6 @@ use Rattle.engine.specs.Picks.{level_of, admits, goes_before, challenged, best_o
 pub passed_by : (before : ℕ → ℕ → Bool) (xs : List ℕ) (x : ℕ) (b : Bool) → best_of before (xs ++ cond b (x ∷ []) []) ≡ cond b (challenged before (best_of before xs) x) (best_of before xs)
 passed_by before xs x true = fold_push (challenged before) None xs x
 passed_by before xs x false = ap (best_of before) (append-nil xs)
-
-pub passing_more : (before : ℕ → ℕ → Bool) (p : ℕ → Bool) (x : ℕ) → best_of before (passing p (x + 1)) ≡ cond (p x) (challenged before (best_of before (passing p x)) x) (best_of before (passing p x))
-passing_more before p x = ap (λ n. best_of before (passing p n)) (add-one x) ∙ passed_by before (passing p x) x (p x)
 
 abbrev pub Every : (ℕ → Type 0) → Option ℕ → Type 0
 Every P None = Unit {0}

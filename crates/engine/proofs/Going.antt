@@ -1,6 +1,6 @@
 -- A run that is on its way: what is left of it ends as the whole.
 use Rattle.std.proofs.Common.{◌≡◌, ℕ, zero, suc, ◌+◌, ◌-◌, ◌<◌, ◌≤◌, Bool, true, false, cond, List, [], ◌∷◌, ◌++◌, length, take, drop, set, Some, None, Option, unwrap_or, sym, refl, ap, ◌∙◌, append_assoc, append-nil, arith}
-use Rattle.std.proofs.lemmas.List.{take_more_set, drop-set-lt, drop-drop, take-append-drop}
+use Rattle.std.proofs.lemmas.List.{take_more_set, drop-set-lt, drop-drop, drop-append-le, length-take, take-append-drop}
 use Rattle.std.proofs.lemmas.List.Sums.{sum_by-cons}
 use Rattle.std.proofs.lemmas.Bool.{cond_both}
 use Rattle.policy.specs.Levels.{Levels}
@@ -107,6 +107,13 @@ stops f u b m₀ s₀ old i m s trail dives o g e =
       source = sym (ap (λ x. x.source) e) ∙ g.source;
       records = sym (take-append-drop i trail) ∙ ap (λ k. k ++ drop i trail) front ∙ ap (λ k. (run f u b m₀ s₀).moves ++ k) (g.rest ∙ ap (λ k. drop k old) n);
     }
+
+-- a trail whose front holds the records, where the rest of it is as before
+pub whole_trail : (vs xs old : List Move) (b : ℕ) → length vs ≤ b → b ≤ length old → xs ≡ trailed vs (take b old) → xs ++ drop b old ≡ trailed vs old
+whole_trail vs xs old b h l e =
+    ap (λ k. k ++ drop b old) e
+    ∙ append_assoc vs (drop (length vs) (take b old)) (drop b old)
+    ∙ ap (λ k. vs ++ k) (sym (drop-append-le (length vs) (take b old) (drop b old) (omega (arith, length-take b old))) ∙ ap (drop (length vs)) (take-append-drop b old))
 
 pub stops_at_end : {Σ : Type 0} (f : Levels) (u : Meaning Σ) (b : ℕ) (m₀ : Model) (s₀ : Σ) (old : List Move) (i : ℕ) (m : Model) (s : Σ) (trail : List Move) (dives : ℕ) → b ≤ i → Going f u b m₀ s₀ old i m s trail dives → Stops (run f u b m₀ s₀) old (ran_to m) i dives m s trail
 stops_at_end f u b m₀ s₀ old i m s trail dives h g =

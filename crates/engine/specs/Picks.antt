@@ -36,10 +36,6 @@ pick f m = best_of (goes_before f m) (passing (admits f m) m.variables)
 abbrev pub dive_pick : Model → ℕ → Option ℕ
 dive_pick m i = best_of (outranks m) (variables_in m i)
 
--- the best so far, once the variable at the place x is looked at
-abbrev pub considered : Levels → Model → Option ℕ → ℕ → Option ℕ
-considered f m best x = cond (admits f m x) (challenged (goes_before f m) best x) best
-
 -- what is picked is one of the first n variables
 abbrev pub Within : Option ℕ → ℕ → Type 0
 Within None n = Unit {0}

@@ -45,13 +45,12 @@ pub(crate) fn run_on<P: Policy, S: Source>(
     ensures trail { trail.new ≡ trailed (run (P.Policy.level policy.now) S.Source.meaning budget (model search.old) source.old).moves trail.old }
 {
     let mut dives = 0;
-    // Stays (no plainer): the place of a record is the number of steps that the run answers.
-    for i in 0..budget {
+    for (i, record) in trail[..budget].iter_mut().enumerate() {
         match advance(search, policy, source) {
             Stepped::Found => return (Outcome::Found, i, dives),
             Stepped::Dry => return (Outcome::Dry, i, dives),
             Stepped::Moved(entry) => {
-                trail[i] = entry;
+                *record = entry;
                 dives += dives_of(entry);
             }
         }

@@ -8,5 +8,5 @@ abbrev pub invariant-loop-i : goal.invariant-loop-i
 invariant-loop-i g l = record {
   ticks : (model l.search).tick + l.initial.budget ≤ 1000000 + l.i;
   pace : Paced (model l.search);
-  going : Going (g.P.Policy.level l.policy) g.S.Source.meaning l.budget (model l.initial.search) l.initial.source l.initial.trail l.i (model l.search) l.source l.trail l.dives;
+  going : Going (g.P.Policy.level l.policy) g.S.Source.meaning l.budget (model l.initial.search) l.initial.source l.initial.record-items l.i (model l.search) l.source l.record-items l.dives;
 }
