@@ -1,6 +1,6 @@
 // What the engine answers.
 
-// Stays (rule): the mode is a number. A record of a trail is plain numbers, and the definitions of steps speak of every level function, of greater levels than those of Level too.
+// Stays (no plainer): the mode is a number, the level's or 0 for a dive. The definitions of moves take any level's number, and each clause would have to turn an optional level into it.
 // A step that moved: the level by which the variable was picked, or 0 for a dive, the variable, its score just before the flip, and the cost after it.
 #[derive(Clone, Copy, Debug, Default, PartialEq, Eq)]
 pub struct Move {

@@ -60,6 +60,7 @@ impl Engine {
         Engine { search: None }
     }
 
+    // Stays (rule): a table is handed over as the number of its variables and a lent slice of words, and a start as a byte for each variable.
     // Takes over a table, and begins at the given assignment.
     pub fn load(&mut self, variables: usize, words: &[i32], start: &[u8]) -> Result<(), Refusal>
         ensures answer { result ≡ (load_reply variables words.now start.now (held self.old)).answer }

@@ -66,6 +66,9 @@ pub(crate) fn top_of_clause(search: &Search, clause: usize) -> Option<usize>
     ensures is { result ≡ dive_pick (model search.now) clause }
     ensures within { Within result (model search.now).variables }
 {
-    let variables = search.entries(clause).iter().map(|entry| entry.variable as usize);
+    let variables = search
+        .entries(clause)
+        .iter()
+        .map(|entry| entry.variable as usize);
     variables.min_by_key(|x| rank_of(search, *x))
 }

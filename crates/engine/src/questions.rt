@@ -22,7 +22,11 @@ impl Engine {
     }
 
     // What the search answers of a variable.
-    fn of_variable<T, F: FnOnce(&Search, usize) -> T>(&self, variable: usize, ask: F) -> Result<T, Refusal>
+    fn of_variable<T, F: FnOnce(&Search, usize) -> T>(
+        &self,
+        variable: usize,
+        ask: F,
+    ) -> Result<T, Refusal>
         requires { (s : Bor Search) (x : ℕ) → x < (model s.now).variables → F.pre ask s x }
         ensures { (k : Model → ℕ → T) → ((s : Bor Search) (x : ℕ) (t : T) → F.post ask s x t → t ≡ k (model s.now) x) → result ≡ of_variable k variable (held self.now) }
     {

@@ -1,4 +1,5 @@
 // One step of a search.
+// Stays (no plainer): search, policy and source are three parameters. The search and the source are changed and the policy is only asked, and each clause speaks of one of them.
 ghost use Rattle.std.specs.Prelude.{◌≡◌, ◌<◌, length};
 ghost use Rattle.policy.specs.Numbers.{level_number};
 ghost use Rattle.state.specs.Model.{Paced, unsatisfied, flipped};
@@ -55,7 +56,7 @@ fn dive(search: &mut Search, number: u32) -> Move
     let place = place_of(number, search.unsatisfied_count());
     let clause = search.unsatisfied_at(place);
     search.weigh();
-    // Stays (no plainer): 0 where a clause names no variable. The definition of a dive says so of every clause, and a loaded one names some.
+    // Stays (no plainer): 0 where a clause names no variable, as the definition of a dive says of every clause. That a loaded one names some would be one clause more of a search, for this line alone.
     let x = top_of_clause(search, clause).unwrap_or(0);
     flip_by(search, 0, x)
 }

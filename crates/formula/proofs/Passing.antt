@@ -85,8 +85,10 @@ passing-enumerated {X} p xs d (suc n) l =
   where
     q : ℕ × X → Bool
     q e = p e.1
+
     places : List (ℕ × X) → List ℕ
     places es = map (λ (e : ℕ × X). e.0) (filter q es)
+
     one : (m : ℕ) (b : Bool) → m ≡ n → map (λ (e : ℕ × X). e.0) (cond b ((m, get_or xs n d) ∷ []) []) ≡ cond b (n ∷ []) []
     one m true e = ap (λ k. k ∷ []) e
     one m false e = refl

@@ -12,11 +12,13 @@ const ROOM: usize = 5_200;
 fn show(rt: &HostRuntime, name: &str, text: &[u8]) -> io::Result<()> {
     let mut words = vec![in rt.alloc(); 0i32; ROOM]?;
     match read(text, &mut words) {
-        Ok(Problem {
-            variables,
-            clauses,
-            words: count,
-        }) => println!(rt; "{name}: {variables} variables, {clauses} clauses, {count} words"),
+        Ok(
+            Problem {
+                variables,
+                clauses,
+                words: count,
+            },
+        ) => println!(rt; "{name}: {variables} variables, {clauses} clauses, {count} words"),
         Err(fault) => {
             let refusal = Refusal::from(fault);
             println!(rt; "{name}: {refusal}")
