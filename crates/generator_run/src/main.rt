@@ -13,7 +13,7 @@ use std::io;
 fn number_after<S: Source>(source: &mut S, others: u32) -> u32
     ensures { result ≡ S.Source.meaning.number (after_draws S.Source.meaning others source.old) }
 {
-    for _ in 0..others {
+    for _i in 0..others {
         let _ = source.draw();
     }
     source.draw()
