@@ -46,7 +46,7 @@ fn effort(answer: Result<Answer, Refusal>) -> Result<Effort, Refusal>
 fn read_values(engine: &Engine, values: &mut [u8])
     ensures { Holds (held engine.now) (length values.old) → values.new ≡ bytes_in (held engine.now) }
 {
-    // Stays (no plainer): false where nothing is held, as the definition says. A clause that something is held would stand in each function above, of smaller lent memory too.
+    // Stays (no plainer): false where nothing is held. The contract speaks only where something is, and a clause that asks for it would stand in each function above, of a trail of another length too.
     for (x, value) in values.iter_mut().enumerate() {
         *value = u8::from(engine.value(x + 1).unwrap_or(false));
     }
