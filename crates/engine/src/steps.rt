@@ -1,5 +1,5 @@
 // One step of a search.
-// Stays (no plainer): search, policy and source are three parameters. The search and the source are changed and the policy is only asked, and each clause speaks of one of them.
+// Stays (no plainer): search, policy and source are three parameters. The search and the source are changed and the policy is only asked, and in a struct of them each clause would have to name its part.
 ghost use Rattle.std.specs.Prelude.{◌≡◌, ◌<◌, length};
 ghost use Rattle.policy.specs.Numbers.{level_number};
 ghost use Rattle.state.specs.Model.{Paced, unsatisfied, flipped};

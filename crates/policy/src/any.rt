@@ -1,5 +1,5 @@
 // One of several policies, and one of several sources: a series of calls can so mix them.
-// Stays (no plainer): an enum and a match for each method, and no dyn. The kinds are few and known here, and a value of an enum is copied, where a boxed one would need the heap.
+// Stays (no plainer): an enum and a match for each method, and no dyn. The kinds are few and known here, and the laws are said of each of them.
 ghost use Rattle.std.specs.Prelude.{◌≡◌};
 ghost use Rattle.policy.specs.Any.{any_level, any_lawful, any_source, any_source_lawful};
 
