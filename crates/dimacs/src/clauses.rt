@@ -1,5 +1,5 @@
 // The clauses of a text, word by word.
-// Stays (no plainer): head and tally are two parameters, and the tally's bound is a clause of three functions. The head is the same for the whole text and the tally another at each word, and each definition takes the two apart.
+// Stays (no plainer): head and tally are two parameters, and the tally's bound is a clause of three functions. The head is the same for the whole text and the tally another at each word; and a tally's fields are public, so that its bound as a fact of the type would ask more of whoever makes one.
 ghost use Rattle.std.specs.Prelude.{◌≡◌, ◌≤◌, ◌++◌, length, drop};
 ghost use Rattle.cnf.specs.Scans.{no_words};
 ghost use Rattle.words.specs.Words.{said, tokens};

@@ -53,7 +53,7 @@ impl Formula {
         ensures { Added clause.now self.old self.new }
     {
         let start = self.entries.len() as u16;
-        // Stays (no plainer): variables are numbers, and there is no list of them to go over.
+        // Stays (no plainer): the numbers themselves are gone over, and each turn changes what is made.
         for v in 0..self.variables {
             let e = entry_of(clause, v as u8);
             if e.is_named() {

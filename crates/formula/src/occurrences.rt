@@ -63,7 +63,7 @@ impl Occurrences {
     {
         self.spans = [Span { start: 0, end: 0 }; 256];
         self.clauses.clear();
-        // Stays (no plainer): variables are numbers, and there is no list of them to go over.
+        // Stays (no plainer): the numbers themselves are gone over, and each turn changes what is made.
         for v in 0..f.variables {
             self.add_variable(f, v as u8);
         }

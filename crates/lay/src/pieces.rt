@@ -1,5 +1,5 @@
 // Pieces of text, each laid into lent bytes that are known to have room for it.
-// Stays (no plainer): the bytes and the place are two parameters, since the sheet and the writer lend their bytes anew at each call.
+// Stays (no plainer): the bytes and the place are two parameters, since the sheet lends its bytes anew at each call, and the writer goes by the same calls.
 ghost use Rattle.std.specs.Prelude.{◌≡◌, ◌+◌, ◌≤◌, length, decimal};
 ghost use Rattle.std.specs.Fmt.{signed_decimal};
 ghost use Rattle.lay.specs.Laid.{laid};

@@ -61,7 +61,7 @@ fn done(res: Result<(), Refusal>) -> Result<Answer, Refusal>
 }
 
 // A step with one of the lent policies and one of the lent sources.
-// Stays (proof): the source by a test and an index. Where get_mut finds none, the proof has lost that the sources are as they were.
+// Stays (proof): the source by a test and an index. Where get_mut finds none, the library does not say that the sources are as they were.
 fn step_with<P: Policy, S: Source>(
     engine: &mut Engine,
     lent: Lent<P>,
