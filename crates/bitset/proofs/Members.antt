@@ -17,10 +17,10 @@ passing_change : (n i : ℕ) (p q : ℕ → Bool) → i < n → ((k : ℕ) → (
 passing_change n i p q l e =
     omega (arith, length-passing p n, length-passing q n, sum_to_change n (λ k. bit (p k)) (λ k. bit (q k)) i l (λ k _ ne. ap bit (e k ne)))
 
-none_passing : (n : ℕ) (p : ℕ → Bool) → ((k : ℕ) → p k ≡ false) → length (passing p n) ≡ 0
+pub none_passing : (n : ℕ) (p : ℕ → Bool) → ((k : ℕ) → p k ≡ false) → length (passing p n) ≡ 0
 none_passing n p e = length-passing p n ∙ (sum_to_same n (λ k. bit (p k)) (λ _. 0) (λ k _. ap bit (e k)) ∙ (sum_to_const n 0 ∙ mul-zero n))
 
-zeros : (n i : ℕ) → get_or {A = ℕ} (replicate n 0) i 0 ≡ 0
+pub zeros : (n i : ℕ) → get_or {A = ℕ} (replicate n 0) i 0 ≡ 0
 zeros zero i = refl
 zeros (suc n) zero = refl
 zeros (suc n) (suc i) = zeros n i
@@ -44,11 +44,11 @@ module _ (ws : List ℕ) (k : ℕ) (l : k < 1024) (size : length ws ≡ 16) wher
   new : get_or (turned ws k) (k / 64) 0 ≡ bit_xor word (2 ^ (k % 64))
   new = get_or-set_same ws (k / 64) _ 0 (omega (arith, size)) ∙ ap (bit_xor word) (one_shl (k % 64) 64 (omega arith))
 
-  turned_same : has (turned ws k) k ≡ not (has ws k)
+  pub turned_same : has (turned ws k) k ≡ not (has ws k)
   unfolding has
   turned_same = ap (λ w. bit_at w (k % 64)) new ∙ bit_turned word (k % 64)
 
-  turned_other : (j : ℕ) → (j ≡ k → ⊥) → has (turned ws k) j ≡ has ws j
+  pub turned_other : (j : ℕ) → (j ≡ k → ⊥) → has (turned ws k) j ≡ has ws j
   unfolding has
   turned_other j ne =
       ⊎_elim

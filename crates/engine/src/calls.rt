@@ -1,5 +1,7 @@
 // What the engine can be told to do. Every call refuses instead of asking anything of its caller, and a refusal alters nothing.
-ghost use Rattle.std.specs.Prelude.{◌≡◌, ◌≤◌, None};
+ghost use Rattle.std.specs.Prelude.{◌≡◌, ◌≤◌, length, Some, None};
+ghost use Rattle.cnf.specs.Tables.{Legal};
+ghost use Rattle.state.specs.Model.{loaded};
 ghost use Rattle.state.specs.Searches.{model};
 ghost use Rattle.engine.specs.Engines.{held};
 ghost use Rattle.engine.specs.Calls.{in_range, ticks_left, budget_fits, load_reply, restart_reply, flip_reply, weigh_reply, step_reply, run_reply, run_trail};
@@ -60,6 +62,16 @@ impl Engine {
         Engine { search: None }
     }
 
+    // The load of a table where a search has to be made. A function pays at its entry for the locals that it may need, and a search is a large one: so this stands by itself.
+    #[inline(never)]
+    fn load_first(&mut self, variables: usize, words: &[i32], start: &[u8])
+        requires table { Legal variables words.now }
+        requires values { length start.now ≡ variables }
+        ensures { held self.new ≡ Some (loaded variables words.now start.now) }
+    {
+        self.search = Some(Search::load(variables, words, start));
+    }
+
     // Stays (rule): a table is handed over as the number of its variables and a lent slice of words, and a start as a byte for each variable.
     // Takes over a table, and begins at the given assignment.
     pub fn load(&mut self, variables: usize, words: &[i32], start: &[u8]) -> Result<(), Refusal>
@@ -68,7 +80,10 @@ impl Engine {
     {
         check_table(variables, words)?;
         check_start(variables, start)?;
-        self.search = Some(Search::load(variables, words, start));
+        match &mut self.search {
+            Some(search) => search.reload(variables, words, start),
+            None => self.load_first(variables, words, start),
+        }
         Ok(())
     }
 

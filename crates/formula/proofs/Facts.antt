@@ -18,11 +18,11 @@ parts e = (e.variable, (e.plain, e.negated))
 entry_coded : Coded Entry
 entry_coded = coded_via (coded× coded_ℕ (coded× coded_bool coded_bool)) parts (λ x y e. λ i. record { variable = (e i).0; plain = (e i).1.0; negated = (e i).1.1 })
 
-all_prop : {X : Type 0} (P : X → Type 0) → ((x : X) → IsProp (P x)) → (xs : List X) → IsProp (AllByRecursion P xs)
+pub all_prop : {X : Type 0} (P : X → Type 0) → ((x : X) → IsProp (P x)) → (xs : List X) → IsProp (AllByRecursion P xs)
 all_prop P h [] = hlevel props
 all_prop P h (x ∷ xs) = let k = all_prop P h xs in let j = h x in hlevel (props, j, k)
 
-clause_prop : (v : ℕ) (c : List ℤ) → IsProp (Clause v c)
+pub clause_prop : (v : ℕ) (c : List ℤ) → IsProp (Clause v c)
 clause_prop v c = let h = all_prop (Literal v) (λ w. hlevel props) c in hlevel (props, h)
 
 pub holds_prop : (v : ℕ) (cs : List (List ℤ)) (f : Formula) → IsProp (Holds v cs f)

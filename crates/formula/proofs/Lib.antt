@@ -1,5 +1,4 @@
 pub mod Sums
-pub mod Signs
 pub mod Counts
 pub mod Normal
 pub mod Adding

@@ -27,15 +27,25 @@ impl Entry {
 }
 
 // In which signs the clause names the variable.
+// Stays (speed): one look through the clause, and each word read before it is compared. Two calls of `contains`, and comparisons that read the word themselves, took half as long again for a load.
 pub fn entry_of(clause: &[i32], variable: u8) -> Entry
     ensures { result ≡ entry_of clause.now variable }
 {
     let word = variable as i32 + 1;
-    Entry {
+    let mut entry = Entry {
         variable,
-        plain: clause.contains(&word),
-        negated: clause.contains(&-word),
+        plain: false,
+        negated: false,
+    };
+    for w in clause {
+        let w = *w;
+        entry = Entry {
+            variable,
+            plain: entry.plain || w == word,
+            negated: entry.negated || w == -word,
+        };
     }
+    entry
 }
 
 // Whether some entry is of the variable.

@@ -1,10 +1,14 @@
 -- Bytes laid behind bytes that are laid already.
-use Rattle.std.proofs.Common.{◌≡◌, ℕ, ◌+◌, ◌≤◌, List, ◌++◌, length, take, drop, Some, sym, refl, ap, ◌∙◌, append_assoc, arith, length-append, rules}
+use Rattle.std.proofs.Common.{◌≡◌, ℕ, ◌+◌, ◌<◌, ◌≤◌, List, [], ◌∷◌, ◌++◌, length, take, drop, set, Some, sym, refl, ap, ◌∙◌, append_assoc, add-one, arith, length-append, rules}
 use borrow.Rule.Slice.PartMut.{put_mid}
-use Rattle.std.proofs.lemmas.List.{drop-drop}
+use Rattle.std.proofs.lemmas.List.{set_split, drop-drop}
 use Rattle.std.proofs.lemmas.Slice.{overwrites, take-put_mid, drop-put_mid}
 use Rattle.std.proofs.lemmas.Bool.{cond-true, le-leb}
 use Rattle.lay.specs.Laid.{laid, put}
+
+-- one byte
+pub laid_one : (out : List ℕ) (at b : ℕ) → at < length out → set out at b ≡ laid out at (b ∷ [])
+laid_one out at b h = rw add-one (set_split out at b h)
 
 laid_is : (out a : List ℕ) (at : ℕ) → laid out at a ≡ put_mid at (length a) out a
 laid_is out a at = ap (λ (x : List ℕ). take at out ++ (a ++ x)) (sym (drop-drop (length a) at out))

@@ -105,11 +105,11 @@ few f u (suc b) m s =
     few_by a.answer (run f u b a.model (left u a.answer s)) m s b (few f u b a.model (left u a.answer s))
 
 -- a run makes at most as many moves as it is given
-ran_few : (seed b : ℕ) (m : Model) → length (ran seed b m).moves ≤ b
+pub ran_few : (seed b : ℕ) (m : Model) → length (ran seed b m).moves ≤ b
 unfolding ran
 ran_few seed b m = few cca generator b m (holding seed)
 
-ran_dives : (seed b : ℕ) (m : Model) → dives_in (ran seed b m).moves ≤ b
+pub ran_dives : (seed b : ℕ) (m : Model) → dives_in (ran seed b m).moves ≤ b
 ran_dives seed b m = omega (arith, count_by-le-length is_dive (ran seed b m).moves, ran_few seed b m)
 
 -- 32 bits hold the steps and the dives of a run of so many moves

@@ -2,7 +2,7 @@
 use Rattle.std.proofs.Common.{◌≡◌, ℕ, zero, suc, ◌+◌, ◌*◌, ◌/◌, ◌<◌, ◌≤◌, Bool, true, false, cond, not, eqb, ltb, List, [], ◌∷◌, map, length, get_or, take, set, replicate, ℤ, sum, sym, refl, ap, ◌∙◌, subst, ap₂, ⊎_elim, mul-le-mul, arith}
 use Rattle.std.proofs.lemmas.Bool.{cases_eq, eq-eqb, ne_eqb, cond-true, cond-false}
 use Rattle.std.proofs.lemmas.List.{ext_get_or, get_or-map, get_or-set_same, get_or-set_other, get_or-replicate, length-map, length-set, length-replicate}
-use Rattle.cnf.specs.Tables.{Assignment, satisfied, clauses_of}
+use Rattle.cnf.specs.Tables.{Assignment, satisfied, clauses_of, Legal}
 use Rattle.formula.specs.declared.formula.Formula.{Formula}
 use Rattle.formula.specs.declared.given.Given.{Given}
 use Rattle.formula.specs.declared.occurrences.Occurrences.{Occurrences}
@@ -11,11 +11,12 @@ use Rattle.formula.specs.Formulas.{clause_count, words_of, Holds}
 use Rattle.formula.specs.Occurrences.{Occurs}
 use Rattle.formula.proofs.Sums.{sum_to_same, sum_to_add, sum_to_const}
 use Rattle.formula.proofs.Counts.{flipped_same, flipped_other}
+use Rattle.formula.proofs.Split.{clauses_legal}
 use Rattle.table.specs.declared.table.Row.{Row}
 use Rattle.table.specs.declared.table.ClauseRow.{ClauseRow}
 use Rattle.table.specs.declared.table.Table.{Table}
 use Rattle.table.specs.Weights.{share_of}
-use Rattle.state.specs.Model.{Model, assignment, flipped, gained_by, smoothed, weighed, begun, Paced}
+use Rattle.state.specs.Model.{Model, assignment, flipped, gained_by, smoothed, weighed, begun, loaded, Paced}
 use Rattle.table.specs.Rows.{row0, clause0, value_at, weight_at, count_at, gained}
 use Rattle.table.specs.Sound.{Sound, Flipped, Weighed, weighed_at, Begun}
 use Rattle.state.specs.Standing.{model_in, Kept}
@@ -98,6 +99,20 @@ module _ (g : Given) (f : Formula) (o : Occurrences) (u : Table) (start : List �
         limited = omega (arith, h.sound.totals, sum_to_same (clause_count f) (weight_at u) (λ _. 1) h.weights, sum_to_const (clause_count f) 1, f.made.few_clauses);
         ticks = omega (arith, h.ticks);
       }
+
+-- a search over a table
+module _ (g : Given) (f : Formula) (o : Occurrences) (u : Table) (v : ℕ) (words : List ℤ) (start : List ℕ) (legal : Legal v words) (n : length start ≡ v) (is : words_of g ≡ words) (h : Holds v (clauses_of words) f) (occurs : Occurs f o) (b : Begun f start u) where
+  holds : Holds f.variables (clauses_of words) f
+  holds = subst (λ x. Holds x (clauses_of words) f) (sym h.variables) h
+
+  pub load_model : model_in g f u ≡ loaded v words start
+  load_model = begin_model g f o u start (clauses_of words) (ap clauses_of is) holds occurs (n ∙ sym h.variables) b ∙ ap (λ x. begun x (clauses_of words) start) h.variables
+
+  pub load_kept : Kept g f o u
+  load_kept =
+      let x : 0 < f.variables = omega (arith, h.variables, legal.variables.0) in
+      let k : 0 < clause_count f = omega (arith, h.clauses, ap length (clauses_legal v words legal), legal.number) in
+      begin_kept g f o u start (clauses_of words) (ap clauses_of is) holds occurs (n ∙ sym h.variables) b (x, k)
 
 -- a tick
 module _ (g : Given) (f : Formula) (o : Occurrences) (t : Table) (kept : Kept g f o t) (l : t.tick < 1000000) where

@@ -35,6 +35,19 @@ impl Search {
         }
     }
 
+    // Takes over another table in place of the one that is there, and begins at the given assignment.
+    pub fn reload(&mut self, variables: usize, words: &[i32], start: &[u8])
+        requires table { Legal variables words.now }
+        requires values { length start.now ≡ variables }
+        ensures { model self.new ≡ loaded variables words.now start.now }
+    {
+        self.given.copy(words);
+        self.formula.load(variables as u16, words);
+        let formula = &self.formula;
+        self.occurrences.fill(formula);
+        self.table.restart(formula, start);
+    }
+
     // Begins anew at the given assignment.
     pub fn restart(&mut self, start: &[u8])
         requires { length start.now ≡ (model self.old).variables }

@@ -75,6 +75,8 @@ impl Table {
     }
 
     // The same for every entry of a clause but that of the variable that is about to be flipped, if there is one and the clause names it.
+    // Inlined, so that a weighing goes over entries without a flipped variable to compare them with.
+    #[inline(always)]
     pub(crate) fn revise_entries(
         &mut self,
         es: &[Entry],

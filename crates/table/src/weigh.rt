@@ -36,6 +36,8 @@ impl ClauseRow {
 
 impl Table {
     // Gives the clause `i` another weight, and brings the scores, the cost and the weights' sum up to date.
+    // Inlined, so that the clauses whose weight stays cost no call.
+    #[inline(always)]
     fn reweigh(&mut self, f: &Formula, i: usize, weight: u32)
         requires i_bound { i < clause_count f.now }
         requires sound { Sound f.now self.old }
@@ -62,7 +64,8 @@ impl Table {
     {
         // Stays (no plainer): each turn needs the whole table, and the clause's number.
         for i in 0..f.clauses() {
-            let weight = rule(self.clauses[i]);
+            let row = self.clauses[i];
+            let weight = rule(row);
             self.reweigh(f, i, weight);
         }
     }

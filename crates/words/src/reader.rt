@@ -8,10 +8,11 @@ use crate::number::{is_number, value};
 use crate::word::{Reader, Word};
 
 // Tab, line end, carriage return and space.
+// Stays (speed): four comparisons, which LLVM turns into one test of a bit, and no pattern, which it does not.
 fn is_white(b: u8) -> bool
     ensures { result ≡ white b }
 {
-    matches!(b, b'\t' | b'\n' | b'\r' | b' ')
+    b == b'\t' || b == b'\n' || b == b'\r' || b == b' '
 }
 
 impl<'a> Reader<'a> {
@@ -32,7 +33,8 @@ impl<'a> Reader<'a> {
         Reader::at(text, 0)
     }
 
-    // The next word, which the reader then stands behind.
+    // The next word, which the reader then stands behind. Inlined, since a text is read word by word, twice.
+    #[inline(always)]
     pub fn next_word(&mut self) -> Word<'a>
         ensures word { said result ≡ word_from self.old.text.now self.old.pos }
         ensures text { self.new.text ≡ self.old.text }
