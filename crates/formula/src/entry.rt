@@ -26,26 +26,16 @@ impl Entry {
     }
 }
 
-// In which signs the clause names the variable.
-// Stays (speed): one look through the clause, and each word read before it is compared. Two calls of `contains`, and comparisons that read the word themselves, took half as long again for a load.
+// In which signs the clause names the variable. By `any`, which becomes a part of the loops above: `contains` is a call for each variable of each clause.
 pub fn entry_of(clause: &[i32], variable: u8) -> Entry
     ensures { result ≡ entry_of clause.now variable }
 {
     let word = variable as i32 + 1;
-    let mut entry = Entry {
+    Entry {
         variable,
-        plain: false,
-        negated: false,
-    };
-    for w in clause {
-        let w = *w;
-        entry = Entry {
-            variable,
-            plain: entry.plain || w == word,
-            negated: entry.negated || w == -word,
-        };
+        plain: clause.iter().any(|w| *w == word),
+        negated: clause.iter().any(|w| *w == -word),
     }
-    entry
 }
 
 // Whether some entry is of the variable.
