@@ -4,7 +4,7 @@ ghost use Rattle.std.specs.Prelude.{◌≡◌, ◌+◌, ◌≤◌, length, decim
 ghost use Rattle.std.specs.Fmt.{signed_decimal};
 ghost use Rattle.lay.specs.Laid.{laid};
 
-use itoa::Buffer;
+use itoa::{Buffer, Integer};
 
 // Lays some bytes, and gives the place after them.
 pub fn lay_bytes(out: &mut [u8], at: usize, bytes: &[u8]) -> usize
@@ -17,7 +17,26 @@ pub fn lay_bytes(out: &mut [u8], at: usize, bytes: &[u8]) -> usize
     end
 }
 
-// How many decimal digits a number has. A single one, as most numbers of small tables have, is told without laying it.
+// How many bytes a number takes.
+fn width<N: Integer>(number: N) -> usize
+    ensures value { result ≡ length (N.text number) }
+    ensures few { result ≤ N.MAX_STR_LEN }
+{
+    Buffer::new().format(number).len()
+}
+
+// Lays a number, and gives the place after it.
+fn lay<N: Integer>(out: &mut [u8], at: usize, number: N) -> usize
+    requires { at + length (N.text number) ≤ length out.old }
+    ensures end { result ≡ at + length (N.text number) }
+    ensures bytes { out.new ≡ laid out.old at (N.text number) }
+{
+    let mut buffer = Buffer::new();
+    lay_bytes(out, at, buffer.format(number).as_bytes())
+}
+
+// How many decimal digits a number has.
+// Stays (speed): a single digit, with or without a minus, by itself, here and below. Most words of small tables are such, and with a buffer for each a table of them took half as long again to write.
 pub fn number_width(number: usize) -> usize
     ensures value { result ≡ length (decimal number) }
     ensures few { result ≤ 20 }
@@ -25,7 +44,7 @@ pub fn number_width(number: usize) -> usize
     if number < 10 {
         return 1;
     }
-    Buffer::new().format(number).len()
+    width(number)
 }
 
 // Lays the decimal digits of a number, and gives the place after them.
@@ -38,8 +57,7 @@ pub fn lay_number(out: &mut [u8], at: usize, number: usize) -> usize
         out[at] = b'0' + number as u8;
         return at + 1;
     }
-    let mut buffer = Buffer::new();
-    lay_bytes(out, at, buffer.format(number).as_bytes())
+    lay(out, at, number)
 }
 
 // How many bytes a signed number takes, with its minus.
@@ -47,8 +65,10 @@ pub fn word_width(word: i32) -> usize
     ensures value { result ≡ length (signed_decimal word) }
     ensures few { result ≤ 21 }
 {
-    let digits = number_width(word.unsigned_abs() as usize);
-    if word < 0 { digits + 1 } else { digits }
+    if word.unsigned_abs() >= 10 {
+        return width(word);
+    }
+    if word < 0 { 2 } else { 1 }
 }
 
 // Lays a signed number, and gives the place after it.
@@ -58,9 +78,11 @@ pub fn lay_word(out: &mut [u8], at: usize, word: i32) -> usize
     ensures bytes { out.new ≡ laid out.old at (signed_decimal word) }
 {
     let magnitude = word.unsigned_abs() as usize;
-    if word < 0 {
-        let digits = lay_bytes(out, at, b"-");
-        lay_number(out, digits, magnitude)
+    if magnitude >= 10 {
+        lay(out, at, word)
+    } else if word < 0 {
+        let digit = lay_bytes(out, at, b"-");
+        lay_number(out, digit, magnitude)
     } else {
         lay_number(out, at, magnitude)
     }

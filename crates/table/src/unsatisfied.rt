@@ -7,18 +7,15 @@ use crate::table::Table;
 
 impl Table {
     // How many of the first `clauses` clauses are unsatisfied.
-    // Stays (speed): a `for`, and no filter and count. Every step and every dive asks this, and LLVM makes vector code of it so.
+    // By a sum, of which LLVM makes vector code; of filter and count it does not, and every step and every dive asks this.
     pub fn unsatisfied_count(&self, clauses: usize) -> usize
         requires { clauses < 1025 }
         ensures { result ≡ length (passing (λ k. nat_eq (count_at self.now k) 0) clauses) }
     {
-        let mut found = 0;
-        for row in &self.clauses[..clauses] {
-            if row.count == 0 {
-                found += 1;
-            }
-        }
-        found
+        self.clauses[..clauses]
+            .iter()
+            .map(|row| (row.count == 0) as usize)
+            .sum()
     }
 
     // The clause at a place of the rising list of the unsatisfied ones.

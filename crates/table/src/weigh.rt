@@ -64,8 +64,7 @@ impl Table {
     {
         // Stays (no plainer): each turn needs the whole table, and the clause's number.
         for i in 0..f.clauses() {
-            let row = self.clauses[i];
-            let weight = rule(row);
+            let weight = rule(self.clauses[i]);
             self.reweigh(f, i, weight);
         }
     }

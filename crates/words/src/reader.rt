@@ -7,12 +7,11 @@ use crate::faults::WordFault;
 use crate::number::{is_number, value};
 use crate::word::{Reader, Word};
 
-// Tab, line end, carriage return and space.
-// Stays (speed): four comparisons, which LLVM turns into one test of a bit, and no pattern, which it does not.
+// Tab, line end, carriage return and space. By `any`, of which LLVM makes one test of a bit; of a pattern it makes a comparison for each.
 fn is_white(b: u8) -> bool
     ensures { result ≡ white b }
 {
-    b == b'\t' || b == b'\n' || b == b'\r' || b == b' '
+    b"\t\n\r ".iter().any(|w| *w == b)
 }
 
 impl<'a> Reader<'a> {
